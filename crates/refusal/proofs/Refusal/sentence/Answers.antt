@@ -1,0 +1,12 @@
+use mathlib.Core.Path.{sym, ap}
+use Rattle.refusal.specs.Refusals.{sentence}
+use Rattle.refusal.proofs.Refusal.sentence.Needs as need
+
+pub returns-in-CardFigure : need.returns-in-CardFigure
+returns-in-CardFigure c = ap sentence (sym (c .in-CardFigure .is))
+
+pub returns-in-Factor : need.returns-in-Factor
+returns-in-Factor c = ap sentence (sym (c .in-Factor .is))
+
+pub returns-in-NoLaw : need.returns-in-NoLaw
+returns-in-NoLaw c = ap sentence (sym (c .in-NoLaw .is))
