@@ -1,0 +1,15 @@
+use mathlib.Core.Path.{sym, ap}
+use Rattle.job.specs.Forms.{form}
+use Rattle.job.proofs.command.Name.form.Needs as need
+
+pub returns-in-Uhpc : need.returns-in-Uhpc
+returns-in-Uhpc c = ap form (sym (c .in-Uhpc .is))
+
+pub returns-in-Deck : need.returns-in-Deck
+returns-in-Deck c = ap form (sym (c .in-Deck .is))
+
+pub returns-in-Steel : need.returns-in-Steel
+returns-in-Steel c = ap form (sym (c .in-Steel .is))
+
+pub returns-in-Stress : need.returns-in-Stress
+returns-in-Stress c = ap form (sym (c .in-Stress .is))

@@ -1,0 +1,17 @@
+use mathlib.Core.Path.{refl, sym, subst}
+use lib.Utf8.{encode}
+use Rattle.std.specs.Text.{Utf8}
+use Rattle.job.specs.declared.command.Name.{Name}
+use Rattle.job.specs.declared.command.Name.the-variants.{Uhpc, Deck, Steel, Stress}
+use Rattle.job.specs.Commands.{spelling}
+use Rattle.job.proofs.read.name_of.Needs as need
+
+spelling-is-text : (n : Name) → Utf8 (spelling n)
+unfolding encode
+spelling-is-text Uhpc = (spelling Uhpc, (refl, refl))
+spelling-is-text Deck = (spelling Deck, (refl, refl))
+spelling-is-text Steel = (spelling Steel, (refl, refl))
+spelling-is-text Stress = (spelling Stress, (refl, refl))
+
+pub returns-in-rest : need.returns-in-rest
+returns-in-rest c = λ n e. c .in-rest .ensures tt .cases .0 (subst Utf8 (sym e) (spelling-is-text n))

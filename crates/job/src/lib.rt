@@ -1,0 +1,5 @@
+// A job: lines of text that are commands, what each does, and the line that it prints.
+pub mod command;
+pub mod fault;
+mod numbers;
+pub mod read;
