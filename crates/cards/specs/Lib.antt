@@ -1,3 +1,4 @@
 pub mod Figures
 pub mod Lines
 pub mod Cards
+pub mod Written

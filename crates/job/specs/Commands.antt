@@ -2,24 +2,18 @@
 use mathlib.Core.Path.{_≡_}
 use mathlib.Core.List.{List, [], _∷_, map}
 use Prim.Native.Nat.{ℕ, _+_}
-use lib.Chars.{codes}
 use lib.IntN.{ℤ}
 use lib.Ieee.{Float}
 use lib.ListN.{take, drop}
 use Rattle.cards.specs.declared.written.WrittenCard.{WrittenCard}
 use Rattle.cards.specs.declared.written.WrittenCard.the-variants.{Uhpc as UhpcCard, Deck as DeckCard, Steel as SteelCard}
 use Rattle.cards.specs.Cards.{figures}
+use Rattle.job.specs.Forms.{spelling}
 use Rattle.job.specs.Numbers.{Real, Whole, Pairwise}
 use Rattle.job.specs.declared.command.Command.{Command}
 use Rattle.job.specs.declared.command.Command.the-variants.{Material, Stress as StressOf}
 use Rattle.job.specs.declared.command.Name.{Name}
 use Rattle.job.specs.declared.command.Name.the-variants.{Uhpc, Deck, Steel, Stress}
-
-abbrev pub spelling : Name → List ℕ
-spelling Uhpc = codes "uhpc"
-spelling Deck = codes "deck"
-spelling Steel = codes "steel"
-spelling Stress = codes "stress"
 
 -- how many numbers of each sort follow the word
 abbrev pub real-count : Name → ℕ

@@ -13,8 +13,8 @@ use Rattle.std.specs.declared.option.Option.{Option}
 use Rattle.std.specs.declared.option.Option.the-variants.{Some, None}
 use Rattle.refusal.specs.First.{FirstOut}
 use Rattle.job.specs.Numbers.{IsReal, IsWhole}
-use Rattle.job.specs.Forms.{form}
-use Rattle.job.specs.Commands.{spelling, real-count, whole-count}
+use Rattle.job.specs.Forms.{spelling, form}
+use Rattle.job.specs.Commands.{real-count, whole-count}
 use Rattle.job.specs.declared.command.Name.{Name}
 use Rattle.job.specs.declared.command.Name.the-variants.{Stress}
 use Rattle.job.specs.declared.fault.Fault.{Fault}

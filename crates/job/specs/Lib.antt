@@ -2,3 +2,4 @@ pub mod Numbers
 pub mod Forms
 pub mod Commands
 pub mod Faults
+pub mod Printed

@@ -1,6 +1,6 @@
 // What a line of a job asks for.
 ghost use mathlib.Core.Path.{_≡_};
-ghost use Rattle.job.specs.Forms.{form as form-of};
+ghost use Rattle.job.specs.Forms.{spelling, form as form-of};
 use cards::written::WrittenCard;
 
 #[derive(Drop)]
@@ -21,6 +21,18 @@ pub enum Name {
 }
 
 impl Name {
+    // The word itself.
+    pub(crate) fn word(&self) -> &'static str
+        ensures { λ r. ⌜ now r ≡ spelling (now (self .entry)) ⌝ }
+    {
+        match self {
+            Name::Uhpc => "uhpc",
+            Name::Deck => "deck",
+            Name::Steel => "steel",
+            Name::Stress => "stress",
+        }
+    }
+
     // How the command is written.
     pub(crate) fn form(&self) -> &'static str
         ensures { λ r. ⌜ now r ≡ form-of (now (self .entry)) ⌝ }

@@ -3,3 +3,5 @@ pub mod command;
 pub mod fault;
 mod numbers;
 pub mod read;
+pub mod printed;
+

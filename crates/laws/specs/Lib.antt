@@ -1,3 +1,4 @@
 pub mod Meaning
 pub mod TwoLine
 pub mod Worked
+pub mod Written

@@ -1,12 +1,26 @@
 // A law of a material: the stress at every strain, and how far it may be strained.
 ghost use mathlib.Core.Path.{_≡_};
+ghost use Rattle.std.specs.declared.option.Option.the-variants.{Some};
 ghost use Rattle.laws.specs.Meaning.{Meaning, Lawful};
+ghost use Rattle.laws.specs.Written.{limits-line};
+use std::fmt;
 
 // The greatest shortening and the greatest lengthening that a material stands, in nano.
 #[derive(Clone, Copy, PartialEq, Eq, Debug)]
 pub struct Limits {
     pub compression: u32,
     pub tension: u32,
+}
+
+// Compression, then tension, one space between.
+pub impl fmt::Display for Limits as LimitsDisplay {
+    ghost shown = { λ x. Some (limits-line x) };
+
+    fn fmt<W: fmt::Write>(&self, f: &mut fmt::Formatter<W>) -> fmt::Result {
+        let compression = self.compression;
+        let tension = self.tension;
+        write!(f, "{compression} {tension}")
+    }
 }
 
 // Strains are in nano and stresses in psi, tension positive. Whoever implements a law gives its meaning and the proof that it is lawful.

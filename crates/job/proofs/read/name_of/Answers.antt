@@ -3,7 +3,7 @@ use lib.Utf8.{encode}
 use Rattle.std.specs.Text.{Utf8}
 use Rattle.job.specs.declared.command.Name.{Name}
 use Rattle.job.specs.declared.command.Name.the-variants.{Uhpc, Deck, Steel, Stress}
-use Rattle.job.specs.Commands.{spelling}
+use Rattle.job.specs.Forms.{spelling}
 use Rattle.job.proofs.read.name_of.Needs as need
 
 spelling-is-text : (n : Name) → Utf8 (spelling n)
