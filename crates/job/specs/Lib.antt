@@ -3,3 +3,4 @@ pub mod Forms
 pub mod Commands
 pub mod Faults
 pub mod Printed
+pub mod Jobs

@@ -4,4 +4,4 @@ pub mod fault;
 mod numbers;
 pub mod read;
 pub mod printed;
-
+pub mod jobs;
