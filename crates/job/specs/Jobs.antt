@@ -23,7 +23,7 @@ use Rattle.job.specs.declared.command.Command.{Command}
 use Rattle.job.specs.declared.command.Command.the-variants.{Material, Stress}
 use Rattle.job.specs.declared.fault.Fault.{Fault}
 use Rattle.job.specs.declared.printed.Answer.the-variants.{Material as MaterialLine, Stress as StressLine}
-use Rattle.job.specs.declared.printed.Printed.{Printed as Line}
+use Rattle.job.specs.declared.printed.Printed.{Printed}
 use Rattle.job.specs.declared.printed.Printed.the-variants.{Answered, Refused, Unreadable}
 
 -- the law is that of the card, checked and reduced by these factors
@@ -43,12 +43,12 @@ abbrev pub numbered : List TwoLine → ℤ → Option TwoLine
 numbered laws (pos n) = nth laws n
 numbered laws (negsuc n) = None
 
-abbrev pub StressPrinted : Option ℤ → Line → Type 0
+abbrev pub StressPrinted : Option ℤ → Printed → Type 0
 StressPrinted (Some stress) printed = printed ≡ Answered (StressLine stress)
 StressPrinted None printed = (refusal : Refusal) × Says refusal 8 [] × (printed ≡ Refused refusal)
 
 -- a material is added at the end and printed with its number, or refused; a stress is printed, or refused by 8
-abbrev pub Performed : List TwoLine → Command → Line → List TwoLine → Type 0
+abbrev pub Performed : List TwoLine → Command → Printed → List TwoLine → Type 0
 Performed laws (Material card alpha gamma) printed after =
     ((law : TwoLine) × Makes card alpha gamma law × (printed ≡ Answered (MaterialLine (card-name card) (length laws) law)) × (after ≡ laws ++ law ∷ []))
     ⊎ ((refusal : Refusal) × MakesNone card alpha gamma refusal × (printed ≡ Refused refusal) × (after ≡ laws))
@@ -60,10 +60,16 @@ abbrev pub Remark : List (List ℕ) → Type 0
 Remark [] = Unit {0}
 Remark (word ∷ words) = getD word 0 0 ≡ 35
 
--- a remark prints nothing; a command is performed; any other line prints what is wrong and changes nothing
-abbrev pub Printed : List TwoLine → ℕ → List (List ℕ) → Option Line → List TwoLine → Type 0
-Printed laws line words None after = Remark words × (after ≡ laws)
-Printed laws line words (Some printed) after =
+-- what the words of a line print: nothing where they are a remark; what the command prints that they are; else what is wrong
+abbrev pub WordsPrint : List TwoLine → ℕ → List (List ℕ) → Option Printed → List TwoLine → Type 0
+WordsPrint laws number words None after = Remark words × (after ≡ laws)
+WordsPrint laws number words (Some printed) after =
     (Remark words → ⊥)
     × (((command : Command) × Spells words command × Performed laws command printed after)
-    ⊎ ((fault : Fault) × Faulty words fault × (printed ≡ Unreadable line fault) × (after ≡ laws)))
+    ⊎ ((fault : Fault) × Faulty words fault × (printed ≡ Unreadable number fault) × (after ≡ laws)))
+
+-- the same of the line's bytes
+pub record Prints (laws : List TwoLine) (number : ℕ) (line : List ℕ) (printed : Option Printed) (after : List TwoLine) : Type 0 where
+  pub words : List (List ℕ)
+  pub cut : WordsOf line words
+  pub printing : WordsPrint laws number words printed after

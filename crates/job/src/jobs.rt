@@ -1,11 +1,13 @@
 // A job that goes on line by line.
 ghost use mathlib.Core.Path.{_≡_};
 ghost use mathlib.Core.List.{[]};
+ghost use lib.ListN.{getD};
 ghost use Rattle.std.specs.Of.Vec.{vec-items};
+ghost use Rattle.std.specs.Orderings.{Decides};
 ghost use Rattle.std.specs.Results.{Cases};
 ghost use Rattle.words.specs.Words.{texts};
 ghost use Rattle.job.specs.Commands.{card-name};
-ghost use Rattle.job.specs.Jobs.{Makes, MakesNone, Performed, Remark, Printed as Prints};
+ghost use Rattle.job.specs.Jobs.{Makes, MakesNone, Performed, Remark, Prints};
 use crate::command::Command;
 use crate::command::Name;
 use crate::fault::Fault;
@@ -34,6 +36,25 @@ fn name_of_card(card: &WrittenCard) -> Name
         WrittenCard::Uhpc(_) => Name::Uhpc,
         WrittenCard::Deck(_) => Name::Deck,
         WrittenCard::Steel(_) => Name::Steel,
+    }
+}
+
+fn begins_remark(word: &[u8]) -> bool
+    ensures { λ r. ⌜ Decides r (getD (now (word .entry)) 0 0 ≡ 35) ⌝ }
+{
+    match word.first() {
+        Some(byte) => *byte == b'#',
+        None => false,
+    }
+}
+
+// A line with no word, or whose first word begins with `#`, is skipped.
+fn is_remark(words: &[&[u8]]) -> bool
+    ensures { λ r. ⌜ Decides r (Remark (texts (now (words .entry)))) ⌝ }
+{
+    match words.split_first() {
+        Some((word, _)) => begins_remark(word),
+        None => true,
     }
 }
 
@@ -91,6 +112,23 @@ impl Job {
         match command {
             Command::Material { card, alpha, gamma } => self.add(card, alpha, gamma),
             Command::Stress { number, strain } => Ok(self.stress(number, strain)),
+        }
+    }
+
+    // What a line of the job prints, if it prints anything; the line has no line end, and its number counts from 1.
+    pub fn line(&mut self, heap: Global, number: u64, line: &[u8]) -> Result<Option<Printed>, AllocError>
+        ensures { λ r. ⌜ Cases r (λ p. Prints (vec-items (now (self .entry) .laws)) number (now (line .entry)) p (vec-items (now (self .exit) .laws))) (λ _. vec-items (now (self .exit) .laws) ≡ vec-items (now (self .entry) .laws)) ⌝ }
+    {
+        let words = words(heap, line)?;
+        if is_remark(&words) {
+            return Ok(None);
+        }
+        match read(&words) {
+            Ok(command) => {
+                let printed = self.perform(command)?;
+                Ok(Some(printed))
+            }
+            Err(fault) => Ok(Some(Printed::Unreadable { line: number, fault })),
         }
     }
 }
