@@ -6,3 +6,6 @@ pub mod states;
 pub mod two_line;
 mod whole;
 pub mod written;
+
+#[cfg(test)]
+mod tests;
