@@ -5,3 +5,6 @@ mod numbers;
 pub mod read;
 pub mod printed;
 pub mod jobs;
+
+#[cfg(test)]
+mod tests;
