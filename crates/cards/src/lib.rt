@@ -3,9 +3,8 @@ mod check;
 mod figures;
 mod reduce;
 pub mod states;
+#[cfg(test)]
+mod tests;
 pub mod two_line;
 mod whole;
 pub mod written;
-
-#[cfg(test)]
-mod tests;

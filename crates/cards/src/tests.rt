@@ -20,17 +20,31 @@ use std::test::*;
 
 fn uhpc(f: [f64; 5]) -> WrittenCard {
     let [modulus, strength, cracking, ultimate, localization] = f;
-    WrittenCard::Uhpc(UhpcFigures { modulus, strength, cracking, ultimate, localization })
+    WrittenCard::Uhpc(UhpcFigures {
+        modulus,
+        strength,
+        cracking,
+        ultimate,
+        localization,
+    })
 }
 
 fn deck(f: [f64; 3]) -> WrittenCard {
     let [modulus, strength, ultimate] = f;
-    WrittenCard::Deck(DeckFigures { modulus, strength, ultimate })
+    WrittenCard::Deck(DeckFigures {
+        modulus,
+        strength,
+        ultimate,
+    })
 }
 
 fn steel(f: [f64; 3]) -> WrittenCard {
     let [modulus, yielding, rupture] = f;
-    WrittenCard::Steel(SteelFigures { modulus, yielding, rupture })
+    WrittenCard::Steel(SteelFigures {
+        modulus,
+        yielding,
+        rupture,
+    })
 }
 
 // Why the check refuses a card, if it does.
@@ -64,6 +78,7 @@ fn law(card: WrittenCard, alpha: i64, gamma: i64) -> Result<TwoLine, Fail> {
 }
 
 const NAN: f64 = 0.0 / 0.0;
+
 const INFINITE: f64 = 1.0 / 0.0;
 
 // What lies just outside a range, and what lies outside every range.
@@ -77,8 +92,20 @@ fn uhpc_ends() -> Result<(), Fail> {
     let high = [40000.0, 40.0, 5.0, 0.1, 0.1];
     check_eq(refused(uhpc(low)), None)?;
     check_eq(refused(uhpc(high)), None)?;
-    let under = [99.99999999999999, 17.499999999999996, 0.7499999999999999, 0.0009999999999999998, 0.0024999999999999996];
-    let over = [40000.00000000001, 40.00000000000001, 5.000000000000001, 0.10000000000000002, 0.10000000000000002];
+    let under = [
+        99.99999999999999,
+        17.499999999999996,
+        0.7499999999999999,
+        0.0009999999999999998,
+        0.0024999999999999996,
+    ];
+    let over = [
+        40000.00000000001,
+        40.00000000000001,
+        5.000000000000001,
+        0.10000000000000002,
+        0.10000000000000002,
+    ];
     for figure in 0u8..5 {
         let i = figure as usize;
         for x in outside(under[i], over[i]) {
@@ -87,7 +114,10 @@ fn uhpc_ends() -> Result<(), Fail> {
             check_eq(refused(uhpc(f)), Some(Refusal::CardFigure { figure }))?;
         }
     }
-    check_eq(refused(uhpc([100.0, 17.0, 0.75, NAN, 0.1])), Some(Refusal::CardFigure { figure: 1 })).note("the first bad figure")
+    check_eq(
+        refused(uhpc([100.0, 17.0, 0.75, NAN, 0.1])),
+        Some(Refusal::CardFigure { figure: 1 }),
+    ).note("the first bad figure")
 }
 
 #[test]
@@ -134,7 +164,16 @@ fn cards_come_back() -> Result<(), Fail> {
     let WrittenCard::Uhpc(f) = back.card else {
         return Err(Fail::new("another kind"));
     };
-    check_eq([f.modulus, f.strength, f.cracking, f.ultimate, f.localization], [6500.0, 20.0, 6.0, 0.0035, 0.0045])?;
+    check_eq(
+        [
+            f.modulus,
+            f.strength,
+            f.cracking,
+            f.ultimate,
+            f.localization,
+        ],
+        [6500.0, 20.0, 6.0, 0.0035, 0.0045],
+    )?;
     let card = checked(uhpc([6500.0, 20.0, 1.0, 0.0035, 0.0045]))?;
     let Err(back) = card.reduce(850, 851) else {
         return Err(Fail::new("taken"));
@@ -143,7 +182,13 @@ fn cards_come_back() -> Result<(), Fail> {
     let Ok(reduced) = back.card.reduce(850, 850) else {
         return Err(Fail::new("refused"));
     };
-    check_eq(reduced.law().plateaus(), Plateaus { compression: 17_000, tension: 850 })
+    check_eq(
+        reduced.law().plateaus(),
+        Plateaus {
+            compression: 17_000,
+            tension: 850,
+        },
+    )
 }
 
 #[test]
@@ -164,9 +209,22 @@ fn factors() -> Result<(), Fail> {
             Some(factor) => Some(Refusal::Factor { factor }),
             None => None,
         };
-        check_eq(unreduced(checked(uhpc([6500.0, 20.0, 1.0, 0.0035, 0.0045]))?, alpha, gamma), want)?;
-        check_eq(unreduced(checked(deck([4000.0, 5.5, 0.003]))?, alpha, gamma), want)?;
-        check_eq(unreduced(checked(steel([29000.0, 60.0, 0.09]))?, alpha, gamma), want)?;
+        check_eq(
+            unreduced(
+                checked(uhpc([6500.0, 20.0, 1.0, 0.0035, 0.0045]))?,
+                alpha,
+                gamma,
+            ),
+            want,
+        )?;
+        check_eq(
+            unreduced(checked(deck([4000.0, 5.5, 0.003]))?, alpha, gamma),
+            want,
+        )?;
+        check_eq(
+            unreduced(checked(steel([29000.0, 60.0, 0.09]))?, alpha, gamma),
+            want,
+        )?;
     }
     Ok(())
 }
@@ -175,20 +233,80 @@ fn factors() -> Result<(), Fail> {
 fn laws_of_cards() -> Result<(), Fail> {
     let concrete = law(uhpc([6500.0, 20.0, 1.0, 0.0035, 0.0045]), 850, 850)?;
     check_eq(concrete.modulus(), 6_500_000)?;
-    check_eq(concrete.plateaus(), Plateaus { compression: 17_000, tension: 850 })?;
-    check_eq(concrete.limits(), Limits { compression: 3_500_000, tension: 3_825_000 })?;
-    for (strain, stress) in [(153, 0), (154, 1), (-1_000, -6), (130_769, 849), (130_770, 850), (i32::MIN, -17_000), (i32::MAX, 850)] {
+    check_eq(
+        concrete.plateaus(),
+        Plateaus {
+            compression: 17_000,
+            tension: 850,
+        },
+    )?;
+    check_eq(
+        concrete.limits(),
+        Limits {
+            compression: 3_500_000,
+            tension: 3_825_000,
+        },
+    )?;
+    for (strain, stress) in [
+        (153, 0),
+        (154, 1),
+        (-1_000, -6),
+        (130_769, 849),
+        (130_770, 850),
+        (i32::MIN, -17_000),
+        (i32::MAX, 850),
+    ] {
         check_eq(concrete.stress(strain), stress)?;
     }
     // Halves go away from zero: 17,500.5 psi and 1,000,000.5 nano.
-    let half = law(uhpc([100.0005, 17.5005, 0.7505, 0.0010000005, 0.0025000005]), 850, 1)?;
+    let half = law(
+        uhpc([100.0005, 17.5005, 0.7505, 0.0010000005, 0.0025000005]),
+        850,
+        1,
+    )?;
     check_eq(half.modulus(), 100_001)?;
-    check_eq(half.plateaus(), Plateaus { compression: 14_875, tension: 0 })?;
-    check_eq(half.limits(), Limits { compression: 1_000_001, tension: 2_500 })?;
+    check_eq(
+        half.plateaus(),
+        Plateaus {
+            compression: 14_875,
+            tension: 0,
+        },
+    )?;
+    check_eq(
+        half.limits(),
+        Limits {
+            compression: 1_000_001,
+            tension: 2_500,
+        },
+    )?;
     let slab = law(deck([4000.0, 5.5, 0.003]), 850, 1)?;
-    check_eq(slab.plateaus(), Plateaus { compression: 4_675, tension: 0 })?;
-    check_eq(slab.limits(), Limits { compression: 3_000_000, tension: 100_000_000 })?;
+    check_eq(
+        slab.plateaus(),
+        Plateaus {
+            compression: 4_675,
+            tension: 0,
+        },
+    )?;
+    check_eq(
+        slab.limits(),
+        Limits {
+            compression: 3_000_000,
+            tension: 100_000_000,
+        },
+    )?;
     let bar = law(steel([29000.0, 60.0, 0.09]), 1, 1)?;
-    check_eq(bar.plateaus(), Plateaus { compression: 60_000, tension: 60_000 })?;
-    check_eq(bar.limits(), Limits { compression: 90_000_000, tension: 90_000_000 })
+    check_eq(
+        bar.plateaus(),
+        Plateaus {
+            compression: 60_000,
+            tension: 60_000,
+        },
+    )?;
+    check_eq(
+        bar.limits(),
+        Limits {
+            compression: 90_000_000,
+            tension: 90_000_000,
+        },
+    )
 }

@@ -23,4 +23,6 @@ pub struct TwoLine {
     ghost longest_in: { Limit (limits .tension) },
 }
 
+pub mod display;
 pub mod law;
+pub mod parts;

@@ -6,9 +6,16 @@ use cards::written::WrittenCard;
 #[derive(Drop)]
 pub enum Command {
     // check and reduce the card, and keep its law
-    Material { card: WrittenCard, alpha: i64, gamma: i64 },
+    Material {
+        card: WrittenCard,
+        alpha: i64,
+        gamma: i64,
+    },
     // the stress of a material at a strain
-    Stress { number: i64, strain: i32 },
+    Stress {
+        number: i64,
+        strain: i32,
+    },
 }
 
 // The words that begin a command.
@@ -38,7 +45,8 @@ impl Name {
         ensures { λ r. ⌜ now r ≡ form-of (now (self .entry)) ⌝ }
     {
         match self {
-            Name::Uhpc => "expected uhpc MODULUS STRENGTH CRACKING ULTIMATE LOCALIZATION ALPHA GAMMA",
+            Name::Uhpc =>
+                "expected uhpc MODULUS STRENGTH CRACKING ULTIMATE LOCALIZATION ALPHA GAMMA",
             Name::Deck => "expected deck MODULUS STRENGTH ULTIMATE ALPHA GAMMA",
             Name::Steel => "expected steel MODULUS YIELD RUPTURE ALPHA GAMMA",
             Name::Stress => "expected stress NUMBER STRAIN",

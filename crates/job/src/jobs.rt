@@ -76,7 +76,9 @@ impl Job {
     pub fn new(heap: Global) -> Job
         ensures { λ r. ⌜ vec-items (r .laws) ≡ [] ⌝ }
     {
-        Job { laws: Vec::new(heap) }
+        Job {
+            laws: Vec::new(heap),
+        }
     }
 
     fn add(&mut self, card: WrittenCard, alpha: i64, gamma: i64) -> Result<Printed, AllocError>
@@ -100,7 +102,9 @@ impl Job {
             return Printed::Refused(Refusal::NoLaw);
         };
         match self.laws.get(place) {
-            Some(law) => Printed::Answered(Answer::Stress { stress: law.stress(strain) }),
+            Some(law) => Printed::Answered(Answer::Stress {
+                stress: law.stress(strain),
+            }),
             None => Printed::Refused(Refusal::NoLaw),
         }
     }
@@ -116,7 +120,12 @@ impl Job {
     }
 
     // What a line of the job prints, if it prints anything; the line has no line end, and its number counts from 1.
-    pub fn line(&mut self, heap: Global, number: u64, line: &[u8]) -> Result<Option<Printed>, AllocError>
+    pub fn line(
+        &mut self,
+        heap: Global,
+        number: u64,
+        line: &[u8],
+    ) -> Result<Option<Printed>, AllocError>
         ensures { λ r. ⌜ Cases r (λ p. Prints (vec-items (now (self .entry) .laws)) number (now (line .entry)) p (vec-items (now (self .exit) .laws))) (λ _. vec-items (now (self .exit) .laws) ≡ vec-items (now (self .entry) .laws)) ⌝ }
     {
         let words = words(heap, line)?;
@@ -128,7 +137,10 @@ impl Job {
                 let printed = self.perform(command)?;
                 Ok(Some(printed))
             }
-            Err(fault) => Ok(Some(Printed::Unreadable { line: number, fault })),
+            Err(fault) => Ok(Some(Printed::Unreadable {
+                line: number,
+                fault,
+            })),
         }
     }
 }

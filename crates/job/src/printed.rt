@@ -5,15 +5,21 @@ use crate::command::Name;
 use crate::fault::Fault;
 use crate::fault::FaultDisplay;
 use cards::two_line::TwoLine;
-use cards::two_line::law::TwoLineDisplay;
+use cards::two_line::display::TwoLineDisplay;
 use refusal::Refusal;
 use refusal::RefusalDisplay;
 use std::fmt;
 
 #[derive(Clone, Copy)]
 pub enum Answer {
-    Material { name: Name, number: usize, law: TwoLine },
-    Stress { stress: i32 },
+    Material {
+        name: Name,
+        number: usize,
+        law: TwoLine,
+    },
+    Stress {
+        stress: i32,
+    },
 }
 
 // The command's word and its answer's numbers.

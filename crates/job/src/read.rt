@@ -37,7 +37,10 @@ fn name_of(word: &[u8]) -> Option<Name>
 }
 
 // The numbers that follow the word of a command: those of f64's parse first, then the whole ones.
-fn arguments<const R: usize, const W: usize>(name: Name, words: &[&[u8]]) -> Result<([f64; R], [i64; W]), Fault>
+fn arguments<const R: usize, const W: usize>(
+    name: Name,
+    words: &[&[u8]],
+) -> Result<([f64; R], [i64; W]), Fault>
     requires { ⌜ (R ≡ real-count name) × (W ≡ whole-count name) ⌝ }
     ensures { λ r. ⌜ Cases r (λ p. Pairwise Real (take (real-count name) (texts (now (words .entry)))) (p .0) × Pairwise Whole (drop (real-count name) (texts (now (words .entry)))) (p .1)) (λ f. Misses name (texts (now (words .entry))) f) ⌝ }
 {
@@ -60,7 +63,13 @@ fn uhpc(words: &[&[u8]]) -> Result<Command, Fault>
     let (figures, factors) = arguments::<5, 2>(Name::Uhpc, words)?;
     let [modulus, strength, cracking, ultimate, localization] = figures;
     let [alpha, gamma] = factors;
-    let card = WrittenCard::Uhpc(UhpcFigures { modulus, strength, cracking, ultimate, localization });
+    let card = WrittenCard::Uhpc(UhpcFigures {
+        modulus,
+        strength,
+        cracking,
+        ultimate,
+        localization,
+    });
     Ok(Command::Material { card, alpha, gamma })
 }
 
@@ -70,7 +79,11 @@ fn deck(words: &[&[u8]]) -> Result<Command, Fault>
     let (figures, factors) = arguments::<3, 2>(Name::Deck, words)?;
     let [modulus, strength, ultimate] = figures;
     let [alpha, gamma] = factors;
-    let card = WrittenCard::Deck(DeckFigures { modulus, strength, ultimate });
+    let card = WrittenCard::Deck(DeckFigures {
+        modulus,
+        strength,
+        ultimate,
+    });
     Ok(Command::Material { card, alpha, gamma })
 }
 
@@ -80,7 +93,11 @@ fn steel(words: &[&[u8]]) -> Result<Command, Fault>
     let (figures, factors) = arguments::<3, 2>(Name::Steel, words)?;
     let [modulus, yielding, rupture] = figures;
     let [alpha, gamma] = factors;
-    let card = WrittenCard::Steel(SteelFigures { modulus, yielding, rupture });
+    let card = WrittenCard::Steel(SteelFigures {
+        modulus,
+        yielding,
+        rupture,
+    });
     Ok(Command::Material { card, alpha, gamma })
 }
 

@@ -22,7 +22,10 @@ fn output(heap: Global, lines: &[&[u8]]) -> Result<String, Fail> {
 
 #[test]
 fn remarks_print_nothing(rt: LibcRuntime) -> Result<(), Fail> {
-    let out = output(rt.alloc(), &[b"", b" \t \r", b"# uhpc \xff\x00", b" \t#\xff"])?;
+    let out = output(
+        rt.alloc(),
+        &[b"", b" \t \r", b"# uhpc \xff\x00", b" \t#\xff"],
+    )?;
     check_eq(out.as_str(), "")
 }
 
