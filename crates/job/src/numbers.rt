@@ -61,7 +61,7 @@ pub impl Number for i64 as WholeNumber {
 }
 
 // The words as numbers, or the place of the first that is none.
-pub fn numbers<T: Number, const N: usize>(words: &[&[u8]]) -> Result<[T; N], usize>
+pub(crate) fn numbers<T: Number, const N: usize>(words: &[&[u8]]) -> Result<[T; N], usize>
     requires { ⌜ length (now words) ≡ N ⌝ }
     ensures { λ r. ⌜ Cases r (λ xs. All (T·Number .form) (texts (now (words .entry))) × Pairwise (T·Number .value) (texts (now (words .entry))) xs) (λ p. FirstOut (T·Number .form) (texts (now (words .entry))) p) ⌝ }
 {

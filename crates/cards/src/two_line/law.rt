@@ -13,7 +13,8 @@ fn elastic(modulus: u32, strain: i32) -> i64
     requires { ⌜ modulus ≤ 40000000 ⌝ }
     ensures { λ r. ⌜ r ≡ elastic-of modulus strain ⌝ }
 {
-    modulus as i64 * strain as i64 / 1_000_000_000
+    let product = modulus as i64 * strain as i64;
+    product / 1_000_000_000
 }
 
 pub impl Law for TwoLine as TwoLineLaw {

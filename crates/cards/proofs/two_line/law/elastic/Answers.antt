@@ -9,8 +9,8 @@ use Rattle.laws.specs.TwoLine.{elastic}
 use Rattle.laws.proofs.Whole.{scale-fits}
 use Rattle.cards.proofs.two_line.law.elastic.Needs as need
 
-pub mul-result : need.mul-result
-mul-result c =
+pub mul-product : need.mul-product
+mul-product c =
     let f = c .fits .strain in
     let e : SFits w64 (c .args .strain) = omega (arith, ints) in
     let m : c .args .modulus < 2 ^ 63 = omega arith in
