@@ -1,3 +1,5 @@
 pub mod Meaning
 pub mod TwoLine
+pub mod Points
+pub mod PointsLawful
 pub mod Worked
