@@ -1,7 +1,7 @@
 -- Every step of an interpolation fits 64 bits, so that the code's steps are those of the definition.
-use lib.IntN.{ℤ, pos, _+ℤ_, _-ℤ_, _*ℤ_}
+use lib.IntN.{ℤ, _+ℤ_, _-ℤ_, _*ℤ_}
 use lib.Signed.{_≤ℤ_, quotZ}
-use mathlib.Core.Path.{_≡_, sym, ap, _∙_, subst}
+use mathlib.Core.Path.{_≡_}
 use mir.Val.{SFits, toZ, ofZ}
 use mir.Syntax.{w64}
 use Prim.Native.Nat.{_<_}
@@ -13,130 +13,106 @@ use Rattle.laws.specs.declared.point.Point.{Point}
 use Rattle.laws.specs.Points.{line, Spans}
 use Rattle.laws.specs.PointsLawful.{Ranged, ranged, sound-range, Next, next, rise, way, product-natural, line-low, line-high}
 
+-- what is known where an interpolation begins
+pub record Start (p q : Point) (z : ℤ) : Type 0 where
+  from : Ranged p
+  to : Ranged q
+  steps : Next p q
+  low : p .strain ≤ℤ z
+  high : z ≤ℤ q .strain
+
+pub start : {p q : Point} {z : ℤ} → Spans p q z → Start p q z
+start {p} {q} s = record { from = ranged p (s .from); to = ranged q (sound-range (Some p) q (s .to)); steps = next p q (s .to); low = s .low; high = s .high }
+
 -- a number in its bits and back, as the code holds it
-abbrev pub held : ℤ → ℤ
+abbrev held : ℤ → ℤ
 held z = toZ w64 (ofZ w64 z)
 
-module _ {p q : Point} {z : ℤ} (spans : Spans p q z) where
-  from : Ranged p
-  from = ranged p (spans .from)
+module _ {p q : Point} {z : ℤ} (s : Start p q z) where
+  abbrev product : ℤ
+  product = (q .stress -ℤ p .stress) *ℤ (z -ℤ p .strain)
 
-  to : Ranged q
-  to = ranged q (sound-range (Some p) q (spans .to))
+  abbrev quotient : ℤ
+  quotient = quotZ product (q .strain -ℤ p .strain)
 
-  steps : Next p q
-  steps = next p q (spans .to)
-
-  product-fits : SFits w64 ((q .stress -ℤ p .stress) *ℤ (z -ℤ p .strain))
+  product-fits : SFits w64 product
   product-fits =
-      let a = from .low in
-      let b = to .high in
-      let c = from .strain-low in
-      let d = to .strain-high in
-      let e = product-natural p q steps z (spans .low) in
-      let f = spans .low in
-      let g = spans .high in
-      let h = steps .stress in
-      let m = mul-le (rise p q steps) (way p q steps z) 600000 200000000 (omega (arith, ints)) (omega (arith, ints)) in
+      let e = product-natural p q (s .steps) z (s .low) in
+      let m = mul-le (rise p q (s .steps)) (way p q (s .steps) z) 600000 200000000 (omega (arith, ints)) (omega (arith, ints)) in
       omega (arith, ints)
 
   line-fits : SFits w64 (line p q z)
   line-fits =
-      let a = from .low in
-      let b = to .high in
-      let c = line-low p q steps z (spans .low) in
-      let d = line-high p q steps z (spans .low) (spans .high) in
+      let a = line-low p q (s .steps) z (s .low) in
+      let b = line-high p q (s .steps) z (s .low) (s .high) in
       omega (arith, ints)
 
-  quotient-fits : SFits w64 (quotZ ((q .stress -ℤ p .stress) *ℤ (z -ℤ p .strain)) (q .strain -ℤ p .strain))
+  quotient-fits : SFits w64 quotient
   unfolding line
   quotient-fits =
-      let a = from .low in
-      let b = to .high in
-      let c = line-low p q steps z (spans .low) in
-      let d = line-high p q steps z (spans .low) (spans .high) in
+      let a = line-low p q (s .steps) z (s .low) in
+      let b = line-high p q (s .steps) z (s .low) (s .high) in
       omega (arith, ints)
 
-  held-product : (held (held (q .stress) -ℤ held (p .stress)) *ℤ held (held z -ℤ held (p .strain))) ≡ ((q .stress -ℤ p .stress) *ℤ (z -ℤ p .strain))
-  held-product =
-      let a = from .low in
-      let b = from .high in
-      let c = to .low in
-      let d = to .high in
-      let e = from .strain-low in
-      let f = from .strain-high in
-      let g = to .strain-high in
-      let h = spans .low in
-      let i = spans .high in
-      let r : held (held (q .stress) -ℤ held (p .stress)) ≡ (q .stress -ℤ p .stress) = omega (arith, ints) in
-      let w : held (held z -ℤ held (p .strain)) ≡ (z -ℤ p .strain) = omega (arith, ints) in
-      rw (r, w)
+  -- the same as the code holds them
 
-  held-run : held (held (q .strain) -ℤ held (p .strain)) ≡ (q .strain -ℤ p .strain)
-  held-run =
-      let a = from .strain-low in
-      let b = from .strain-high in
-      let c = to .strain-low in
-      let d = to .strain-high in
-      omega (arith, ints)
+  abbrev held-rise : ℤ
+  held-rise = held (q .stress) -ℤ held (p .stress)
 
-  pub code-rise-fits : SFits w64 (held (q .stress) -ℤ held (p .stress))
-  code-rise-fits =
-      let a = from .low in
-      let b = from .high in
-      let c = to .low in
-      let d = to .high in
-      omega (arith, ints)
+  abbrev held-way : ℤ
+  held-way = held z -ℤ held (p .strain)
 
-  pub code-way-fits : SFits w64 (held z -ℤ held (p .strain))
-  code-way-fits =
-      let a = from .strain-low in
-      let b = from .strain-high in
-      let c = to .strain-high in
-      let d = spans .low in
-      let e = spans .high in
-      omega (arith, ints)
+  abbrev held-run : ℤ
+  held-run = held (q .strain) -ℤ held (p .strain)
 
-  pub code-run-fits : SFits w64 (held (q .strain) -ℤ held (p .strain))
-  code-run-fits =
-      let a = from .strain-low in
-      let b = from .strain-high in
-      let c = to .strain-low in
-      let d = to .strain-high in
-      omega (arith, ints)
+  abbrev held-product : ℤ
+  held-product = held held-rise *ℤ held held-way
 
-  pub code-product-fits : SFits w64 (held (held (q .stress) -ℤ held (p .stress)) *ℤ held (held z -ℤ held (p .strain)))
-  code-product-fits = rw held-product product-fits
+  abbrev held-quotient : ℤ
+  held-quotient = quotZ (held held-product) (held held-run)
 
-  pub code-run-some : 0 < ofZ w64 (held (q .strain) -ℤ held (p .strain))
-  code-run-some =
-      let a = from .strain-low in
-      let b = from .strain-high in
-      let c = to .strain-low in
-      let d = to .strain-high in
-      let e = steps .strain in
-      omega (arith, ints)
+  abbrev held-sum : ℤ
+  held-sum = held (p .stress) +ℤ held held-quotient
 
-  abbrev code-quotient : ℤ
-  code-quotient = quotZ (held (held (held (q .stress) -ℤ held (p .stress)) *ℤ held (held z -ℤ held (p .strain)))) (held (held (q .strain) -ℤ held (p .strain)))
+  pub held-rise-fits : SFits w64 held-rise
+  held-rise-fits = omega (arith, ints)
 
-  quotient-is : code-quotient ≡ quotZ ((q .stress -ℤ p .stress) *ℤ (z -ℤ p .strain)) (q .strain -ℤ p .strain)
-  quotient-is = let f = product-fits in rw (held-product, held-run) (simp toZ-ofZ)
+  pub held-way-fits : SFits w64 held-way
+  held-way-fits = omega (arith, ints)
 
-  pub code-quotient-fits : SFits w64 code-quotient
-  code-quotient-fits = rw quotient-is quotient-fits
+  pub held-run-fits : SFits w64 held-run
+  held-run-fits = omega (arith, ints)
 
-  sum-is : (held (p .stress) +ℤ held code-quotient) ≡ line p q z
+  pub held-run-some : 0 < ofZ w64 held-run
+  held-run-some = omega (arith, ints)
+
+  product-is : held-product ≡ product
+  product-is =
+      let a : held held-rise ≡ (q .stress -ℤ p .stress) = omega (arith, ints) in
+      let b : held held-way ≡ (z -ℤ p .strain) = omega (arith, ints) in
+      rw (a, b)
+
+  pub held-product-fits : SFits w64 held-product
+  held-product-fits = rw product-is product-fits
+
+  quotient-is : held-quotient ≡ quotient
+  quotient-is =
+      let f = product-fits in
+      let e : held held-run ≡ (q .strain -ℤ p .strain) = omega (arith, ints) in
+      rw (product-is, e) (simp toZ-ofZ)
+
+  pub held-quotient-fits : SFits w64 held-quotient
+  held-quotient-fits = rw quotient-is quotient-fits
+
+  sum-is : held-sum ≡ line p q z
   unfolding line
   sum-is =
-      let a = from .low in
-      let b = from .high in
-      let s : SFits w64 (p .stress) = omega (arith, ints) in
+      let a : SFits w64 (p .stress) = omega (arith, ints) in
       let f = quotient-fits in
       rw quotient-is (simp toZ-ofZ)
 
-  pub code-sum-fits : SFits w64 (held (p .stress) +ℤ held code-quotient)
-  code-sum-fits = rw sum-is line-fits
+  pub held-sum-fits : SFits w64 held-sum
+  held-sum-fits = rw sum-is line-fits
 
-  pub code-line : held (held (p .stress) +ℤ held code-quotient) ≡ line p q z
-  code-line = let f = line-fits in rw sum-is (simp toZ-ofZ)
+  pub held-sum-is : held held-sum ≡ line p q z
+  held-sum-is = let f = line-fits in rw sum-is (simp toZ-ofZ)

@@ -30,10 +30,10 @@ below z p = ltZ (toZ w64 (ofZ w64 z)) (toZ w64 (ofZ w64 (p .strain)))
 
 module _ (z : ℤ) (p : Point) (fits : SFits w64 z) (range : T (in-range p)) where
   below-true : below z p ≡ true → z <ℤ p .strain
-  below-true e = let r = ranged p range in let a = r .strain-low in let b = r .strain-high in omega (arith, ints)
+  below-true e = let r = ranged p range in omega (arith, ints)
 
   below-false : below z p ≡ false → p .strain ≤ℤ z
-  below-false e = let r = ranged p range in let a = r .strain-low in let b = r .strain-high in omega (arith, ints)
+  below-false e = let r = ranged p range in omega (arith, ints)
 
 past-first : (points : List Point) (z : ℤ) (d : Point) → 1 ≤ length points → T (all-sound points) → SFits w64 z → below z (getD points 0 d) ≡ false → Past points z (getD points 0 d) (drop 1 points)
 past-first [] z d some all fits e = absurd (omega arith)
@@ -80,4 +80,4 @@ module _ {points : List Point} {z : ℤ} {p : Point} (list : List Point) (i : �
   past-last = sym (known .same ∙ ap (λ l. onward p l z) (drop-all i list out))
 
   pub last-fits : SFits w64 (p .stress)
-  last-fits = let r = ranged p (known .range) in let a = r .low in let b = r .high in omega (arith, ints)
+  last-fits = let r = ranged p (known .range) in omega (arith, ints)

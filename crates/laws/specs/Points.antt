@@ -5,7 +5,7 @@ use mathlib.Core.List.{List, [], _∷_, _++_}
 use mathlib.Core.Logic.{_⊎_}
 use Prim.Native.Nat.{ℕ, _≤_}
 use lib.Dec.{T}
-use lib.IntN.{ℤ, pos, negℤ, _+ℤ_, _-ℤ_, _*ℤ_}
+use lib.IntN.{ℤ, pos, negℤ, natAbs, _+ℤ_, _-ℤ_, _*ℤ_}
 use lib.ListN.{length}
 use lib.Signed.{_≤ℤ_, leZ, ltZ, quotZ}
 use Rattle.std.specs.declared.option.Option.{Option}
@@ -17,7 +17,7 @@ use Rattle.refusal.specs.Refusals.{Says}
 use Rattle.refusal.specs.declared.Refusal.{Refusal}
 use Rattle.laws.specs.declared.law.Limits.{Limits}
 use Rattle.laws.specs.declared.point.Point.{Point}
-use Rattle.laws.specs.Meaning.{Meaning}
+use Rattle.laws.specs.Meaning.{Meaning, Limit}
 
 -- ---- the stress
 
@@ -25,11 +25,12 @@ use Rattle.laws.specs.Meaning.{Meaning}
 unfoldable pub line : Point → Point → ℤ → ℤ
 line p q strain = p .stress +ℤ quotZ ((q .stress -ℤ p .stress) *ℤ (strain -ℤ p .strain)) (q .strain -ℤ p .strain)
 
--- from the point p onward
+-- from the point p onward: on the lines between neighbours, and past the last point its stress
 abbrev pub onward : Point → List Point → ℤ → ℤ
 onward p [] strain = p .stress
 onward p (q ∷ more) strain = cond (ltZ strain (q .strain)) (line p q strain) (onward q more strain)
 
+-- up to the first point its stress
 abbrev pub point-stress : List Point → ℤ → ℤ
 point-stress [] strain = pos 0
 point-stress (p ∷ more) strain = cond (ltZ strain (p .strain)) (p .stress) (onward p more strain)
@@ -48,6 +49,7 @@ abbrev pub in-order : Option Point → Point → Bool
 in-order None p = true
 in-order (Some before) p = ltZ (before .strain) (p .strain) && leZ (before .stress) (p .stress)
 
+-- sound: in range, and in order after the point before it
 abbrev pub sound : Option Point × Point → Bool
 sound s = in-range (s .1) && in-order (s .0) (s .1)
 
@@ -59,7 +61,7 @@ abbrev pub after : Option Point → List Point → List (Option Point × Point)
 after before [] = []
 after before (p ∷ more) = (before, p) ∷ after (Some p) more
 
--- every point is in range and in order
+-- what a law that is held always passes
 abbrev pub all-sound : List Point → Bool
 all-sound points = all-pass sound (after None points)
 
@@ -70,9 +72,9 @@ pub record Spans (p q : Point) (strain : ℤ) : Type 0 where
   pub low : p .strain ≤ℤ strain
   pub high : strain ≤ℤ q .strain
 
--- a limit as it is asked for
+-- a number that was asked for as a limit
 abbrev pub AskedLimit : ℤ → Type 0
-AskedLimit z = (pos 1 ≤ℤ z) × (z ≤ℤ pos 100000000)
+AskedLimit z = (pos 0 ≤ℤ z) × Limit (natAbs z)
 
 -- 2 to 16 points, and limits in range
 pub record PointLawForm (points : List Point) (compression tension : ℤ) : Type 0 where
@@ -107,13 +109,16 @@ PointsRefused points compression tension refusal = FormRefused points compressio
 -- ---- what the definition of the stress comes to
 
 pub record PointShape (points : List Point) : Type 0 where
+  -- at each given point the given stress
   pub given : (front rest : List Point) (p : Point) → points ≡ front ++ p ∷ rest → point-stress points (p .strain) ≡ p .stress
   -- between neighbours the stress is that of their line, and lies between theirs
   pub lines : (front rest : List Point) (p q : Point) → points ≡ front ++ p ∷ q ∷ rest → (z : ℤ) → p .strain ≤ℤ z → z ≤ℤ q .strain → point-stress points z ≡ line p q z
   pub between : (front rest : List Point) (p q : Point) → points ≡ front ++ p ∷ q ∷ rest → (z : ℤ) → p .strain ≤ℤ z → z ≤ℤ q .strain → (p .stress ≤ℤ point-stress points z) × (point-stress points z ≤ℤ q .stress)
+  -- never falling
   pub rises : (y z : ℤ) → y ≤ℤ z → point-stress points y ≤ℤ point-stress points z
-  -- beyond the first point and beyond the last
+  -- before the first point the first stress, after the last the last
   pub first : (rest : List Point) (p : Point) → points ≡ p ∷ rest → (z : ℤ) → z ≤ℤ p .strain → point-stress points z ≡ p .stress
   pub last : (front : List Point) (p : Point) → points ≡ front ++ p ∷ [] → (z : ℤ) → p .strain ≤ℤ z → point-stress points z ≡ p .stress
+  -- within range
   pub low : (z : ℤ) → negℤ (pos 300000) ≤ℤ point-stress points z
   pub high : (z : ℤ) → point-stress points z ≤ℤ pos 300000

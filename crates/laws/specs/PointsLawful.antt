@@ -50,11 +50,10 @@ module _ (p q : Point) (next : Next p q) where
   way z = natAbs (z -ℤ p .strain)
 
   run-some : 0 < run
-  run-some = let h = next .strain in omega (arith, ints)
+  run-some = omega (arith, ints)
 
   pub product-natural : (z : ℤ) → p .strain ≤ℤ z → ((q .stress -ℤ p .stress) *ℤ (z -ℤ p .strain)) ≡ pos (rise * way z)
   product-natural z h =
-      let s = next .stress in
       let a : (q .stress -ℤ p .stress) ≡ pos rise = omega (arith, ints) in
       let b : (z -ℤ p .strain) ≡ pos (way z) = omega (arith, ints) in
       rw (a, b)
@@ -62,7 +61,6 @@ module _ (p q : Point) (next : Next p q) where
   line-is : (z : ℤ) → p .strain ≤ℤ z → line p q z ≡ p .stress +ℤ pos (rise * way z / run)
   unfolding line
   line-is z h =
-      let s = next .strain in
       let d : (q .strain -ℤ p .strain) ≡ pos run = omega (arith, ints) in
       ap (λ x. p .stress +ℤ x) (rw (product-natural z h, d))
 
@@ -82,8 +80,6 @@ module _ (p q : Point) (next : Next p q) where
 
   pub line-last : line p q (q .strain) ≡ q .stress
   line-last =
-      let h = next .strain in
-      let k = next .stress in
       let a = line-is (q .strain) (omega (arith, ints)) in
       let b = part-whole rise run run-some in
       omega (arith, ints)

@@ -14,10 +14,12 @@ pub struct PointLaw {
     limits: Limits,
     ghost enough: { 2 ≤ vec-len points },
     ghost few: { vec-len points ≤ 16 },
-    ghost sound: { T (all-sound (vec-items points)) },
+    ghost points_sound: { T (all-sound (vec-items points)) },
     ghost shortest_in: { Limit (limits .compression) },
     ghost longest_in: { Limit (limits .tension) },
 }
 
 mod check;
 pub mod law;
+#[cfg(test)]
+mod tests;

@@ -17,7 +17,14 @@ use crate::law::Limits;
 use crate::point::Point;
 use refusal::Refusal;
 
-// The greatest strain of a point and the greatest limit, in nano.
+const FEWEST_POINTS: usize = 2;
+
+const MOST_POINTS: usize = 16;
+
+// The greatest limit, in nano.
+const MOST_LIMIT: i64 = 100_000_000;
+
+// The greatest strain of a point, in nano.
 const MOST_STRAIN: i64 = 100_000_000;
 
 // The greatest stress of a point, in psi.
@@ -27,7 +34,7 @@ const MOST_STRESS: i64 = 300_000;
 fn limit_of(nano: i64) -> Option<u32>
     ensures { λ r. ⌜ BySome r (AskedLimit nano → ⊥) (λ n. AskedLimit nano × (pos n ≡ nano) × Limit n) ⌝ }
 {
-    if 1 <= nano && nano <= MOST_STRAIN {
+    if 1 <= nano && nano <= MOST_LIMIT {
         Some(nano as u32)
     } else {
         None
@@ -82,7 +89,7 @@ impl PointLaw {
         let (Some(shortest), Some(longest)) = (limit_of(compression), limit_of(tension)) else {
             return Err(Refusal::PointLawForm);
         };
-        if points.len() < 2 || 16 < points.len() {
+        if points.len() < FEWEST_POINTS || MOST_POINTS < points.len() {
             return Err(Refusal::PointLawForm);
         }
         match first_unsound(&points) {

@@ -41,7 +41,7 @@ fn stress_at(points: &[Point], strain: i64) -> i64
 pub impl Law for PointLaw as LawOfPoints {
     ghost meaning = { λ s. point-law (vec-items (s .points)) (s .limits) };
 
-    ghost lawful = { λ s. points-lawful (vec-items (s .points)) (s .limits) (s .sound) (s .«shortest_in») (s .«longest_in») };
+    ghost lawful = { λ s. points-lawful (vec-items (s .points)) (s .limits) (s .«points_sound») (s .«shortest_in») (s .«longest_in») };
 
     fn stress(&self, strain: i32) -> i32 {
         stress_at(&self.points, strain as i64) as i32

@@ -22,8 +22,8 @@ fits : (c : need.After-stress-at) → SFits w32 (c .stress-at .result)
 fits c =
     let s = c .args .self .now in
     let e = answer c in
-    let l = stress-low (vec-items (s .points)) (s .sound) (c .args .strain) in
-    let h = stress-high (vec-items (s .points)) (s .sound) (c .args .strain) in
+    let l = stress-low (vec-items (s .points)) (s .«points_sound») (c .args .strain) in
+    let h = stress-high (vec-items (s .points)) (s .«points_sound») (c .args .strain) in
     omega (arith, ints)
 
 pub cast-result : need.cast-result
