@@ -1,13 +1,12 @@
 -- The stress of a point law rises and stays in range.
 use lib.IntN.{ℤ, pos, negℤ, natAbs, _+ℤ_, _-ℤ_, _*ℤ_}
-use lib.Signed.{_≤ℤ_, _<ℤ_, ltZ, quotZ, leZ-yes, ltZ-yes}
+use lib.Signed.{_≤ℤ_, _<ℤ_, ltZ, leZ-yes, ltZ-yes}
 use lib.Dec.{T}
 use lib.Ieee.Fits.{and-l, and-r}
-use mathlib.Core.Path.{_≡_, refl, sym, ap, _∙_, subst}
-use mathlib.Core.Bool.{Bool, true, false, cond}
+use mathlib.Core.Path.{_≡_, sym, ap, _∙_}
 use mathlib.Core.List.{List, [], _∷_}
-use Prim.Native.Nat.{ℕ, _≤_, _+_, _*_, _/_, _<_}
-use native.Mathlib.Nat.{mul-le-mul-left, div-le-of-le-mul, mul-div-cancel, mul-zero, zero-div, mul-comm, div-mul-le-self}
+use Prim.Native.Nat.{ℕ, _≤_, _*_, _/_, _<_}
+use native.Mathlib.Nat.{mul-le-mul-left, mul-div-cancel, mul-zero, zero-div, div-mul-le-self}
 use native.Mathlib.Omega.{arith}
 use Rattle.std.specs.declared.option.Option.{Option}
 use Rattle.std.specs.declared.option.Option.the-variants.{Some, None}
@@ -144,7 +143,6 @@ pub onward-low : (p : Point) (more : List Point) → Chain p more → (z : ℤ) 
 onward-low p [] chain z h = omega (arith, ints)
 onward-low p (q ∷ more) chain z h =
     let n = chain-next p q more chain in
-    let s = n .stress in
     by-ltZ z (q .strain)
     (λ k. let a = onward-line p q more z k in let b = line-low p q n z h in omega (arith, ints))
     (λ k. let a = onward-past p q more z k in let b = onward-low q more (chain-rest p q more chain) z k in omega (arith, ints))

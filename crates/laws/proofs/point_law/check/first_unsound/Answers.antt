@@ -1,9 +1,6 @@
 use mathlib.Core.Path.{sym, subst}
 use mathlib.Core.List.{List}
 use lib.Dec.{T}
-use lib.ListN.{getD, drop}
-use lib.IntN.{pos}
-use Rattle.std.specs.declared.option.Option.{Option}
 use Rattle.std.specs.declared.option.Option.the-variants.{None}
 use Rattle.std.specs.shelf.Lists.{All}
 use Rattle.std.proofs.shelf.Lists.{drop-more, drop-all}
