@@ -17,6 +17,8 @@ pub enum Refusal {
     LawPoint { point: u8 },
     // no law has that number
     NoLaw,
+    // no strain within the limits of the law reaches the stress
+    OutOfReach,
 }
 
 // What a refusal points at, in the order in which it prints.
@@ -36,6 +38,7 @@ impl Refusal {
             Refusal::PointLawForm => 3,
             Refusal::LawPoint { .. } => 4,
             Refusal::NoLaw => 8,
+            Refusal::OutOfReach => 16,
         }
     }
 
@@ -48,6 +51,7 @@ impl Refusal {
             Refusal::PointLawForm => Places::Nowhere,
             Refusal::LawPoint { point } => Places::One(point as i64),
             Refusal::NoLaw => Places::Nowhere,
+            Refusal::OutOfReach => Places::Nowhere,
         }
     }
 
@@ -65,6 +69,8 @@ impl Refusal {
             Refusal::LawPoint { .. } =>
                 "a point of the law lies outside its range or out of order; the place counts the points from 0",
             Refusal::NoLaw => "no material has that number",
+            Refusal::OutOfReach =>
+                "no strain within the limits of the material reaches that stress",
         }
     }
 }

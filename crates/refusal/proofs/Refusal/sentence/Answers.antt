@@ -16,3 +16,6 @@ returns-in-LawPoint c = ap sentence (sym (c .in-LawPoint .is))
 
 pub returns-in-NoLaw : need.returns-in-NoLaw
 returns-in-NoLaw c = ap sentence (sym (c .in-NoLaw .is))
+
+pub returns-in-OutOfReach : need.returns-in-OutOfReach
+returns-in-OutOfReach c = ap sentence (sym (c .in-OutOfReach .is))
