@@ -1,7 +1,7 @@
 // A quantity over whole points that never falls, and the search for a point by its value.
 ghost use mathlib.Core.Path.{_≡_};
-ghost use lib.IntN.{ℤ};
-ghost use lib.Signed.{_≤ℤ_, _<ℤ_};
+ghost use lib.IntN.{ℤ, pos, _+ℤ_, _-ℤ_};
+ghost use lib.Signed.{_≤ℤ_, _<ℤ_, quotZ};
 ghost use Rattle.search.specs.Points.{Least, LeastOrNone, GreatestOrNone, Only};
 
 // A quantity over whole points that never falls as the point rises.
@@ -18,9 +18,10 @@ pub trait NeverFalls {
         ensures { λ r. ⌜ r ≡ value (now (self .entry)) point ⌝ };
 }
 
-// A point between the two that is not the upper one, with no sum that wraps.
+// The midpoint of the two, which is not the upper one, with no sum that wraps.
 fn halfway(low: i32, high: i32) -> i32
     requires { ⌜ low <ℤ high ⌝ }
+    ensures value { λ r. ⌜ r ≡ low +ℤ quotZ (high -ℤ low) (pos 2) ⌝ }
     ensures from { λ r. ⌜ low ≤ℤ r ⌝ }
     ensures below { λ r. ⌜ r <ℤ high ⌝ }
 {

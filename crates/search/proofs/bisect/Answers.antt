@@ -6,6 +6,18 @@ use Rattle.std.proofs.shelf.Signed.{ints, toZ-ofZ}
 use Rattle.search.proofs.Bisection.{reaches-on, between-upper, between-lower, between-one, next-fits}
 use Rattle.search.proofs.bisect.Needs as need
 
+pub at-requires : need.at-requires
+at-requires g c κs =
+    let l = c .fits .low in
+    let h = c .fits .high in
+    let m : SFits w32 (c .halfway-middle .result) = sfits-of (c .halfway-middle .ok) in
+    let k = simp toZ-ofZ at (c .loop-bottom .inv) in
+    let s = k .starts in
+    let e = k .ends in
+    let from = c .halfway-middle .ensures .from in
+    let below = c .halfway-middle .ensures .below in
+    simp toZ-ofZ (c .pre .covered (c .halfway-middle .result) (omega (arith, ints)) (omega (arith, ints)))
+
 pub loop-bottom-again-then-at-target : need.loop-bottom-again-then-at-target
 loop-bottom-again-then-at-target g c =
     let l = c .fits .low in

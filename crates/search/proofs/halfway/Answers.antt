@@ -20,4 +20,4 @@ returns c =
     let q = half-fits l h f g (c .pre) in
     let m64 : SFits w64 (l +ℤ quotZ (h -ℤ l) (pos 2)) = omega (arith, ints, m .0, m .1) in
     let m32 : SFits w32 (l +ℤ quotZ (h -ℤ l) (pos 2)) = omega (arith, ints, m .0, m .1) in
-    record { from = simp toZ-ofZ (m .0); below = simp toZ-ofZ (m .1) }
+    record { value = simp toZ-ofZ; from = simp toZ-ofZ (m .0); below = simp toZ-ofZ (m .1) }
