@@ -1,9 +1,10 @@
 use mathlib.Core.Path.{refl}
 use Rattle.laws.specs.TwoLine.{elastic, two-line}
+use Rattle.laws.specs.Points.{line}
 use Rattle.laws.proofs.worked.worked_values_stand.Needs as need
 
 pub returns : need.returns
-unfolding elastic two-line
+unfolding elastic two-line line
 returns c = record {
   nothing-yet = refl;
   first-psi = refl;
@@ -12,4 +13,6 @@ returns c = record {
   at-cracking = refl;
   above-crushing = refl;
   at-crushing = refl;
+  halfway = refl;
+  slack = refl;
 }

@@ -1,0 +1,3 @@
+pub mod Bisection
+pub mod Midpoint
+pub mod Points
