@@ -24,6 +24,10 @@ pub pairwise-more : {X Y : Type 0} (R : X → Y → Type 0) (xs : List X) (ys : 
 pairwise-more R xs ys i d y inside room h r =
     rw (take-more xs i d inside, take-more-set ys i y room) (pairwise-push R (take i xs) (take i ys) (getD xs i d) y h r)
 
+-- and one more, as a loop that pushes comes to it
+pub pairwise-pushed : {X Y : Type 0} (R : X → Y → Type 0) (xs : List X) (ys zs : List Y) (i : ℕ) (d : X) (y : Y) → i < length xs → zs ≡ ys ++ y ∷ [] → Pairwise R (take i xs) ys → R (getD xs i d) y → Pairwise R (take (i + 1) xs) zs
+pairwise-pushed R xs ys zs i d y inside e h r = rw (take-more xs i d inside, e) (pairwise-push R (take i xs) ys (getD xs i d) y h r)
+
 -- n items from place i on, each by its place, as a pattern takes an array apart
 abbrev pub places : {X : Type 0} → ℕ → ℕ → List X → X → List X
 places zero i xs d = []

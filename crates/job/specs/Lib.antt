@@ -3,4 +3,5 @@ pub mod Forms
 pub mod Commands
 pub mod Faults
 pub mod Printed
+pub mod Materials
 pub mod Jobs

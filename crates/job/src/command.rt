@@ -2,19 +2,31 @@
 ghost use mathlib.Core.Path.{_≡_};
 ghost use Rattle.job.specs.Forms.{spelling, form as form-of};
 use cards::written::WrittenCard;
+use laws::point::Point;
 
 #[derive(Drop)]
 pub enum Command {
     // check and reduce the card, and keep its law
-    Material {
+    Card {
         card: WrittenCard,
         alpha: i64,
         gamma: i64,
+    },
+    // keep the law through the points, with these limits
+    Points {
+        points: Vec<Point>,
+        compression: i64,
+        tension: i64,
     },
     // the stress of a material at a strain
     Stress {
         number: i64,
         strain: i32,
+    },
+    // the least strain at which a material carries a stress
+    Reach {
+        number: i64,
+        stress: i32,
     },
 }
 
@@ -24,7 +36,9 @@ pub enum Name {
     Uhpc,
     Deck,
     Steel,
+    Points,
     Stress,
+    Reach,
 }
 
 impl Name {
@@ -36,7 +50,9 @@ impl Name {
             Name::Uhpc => "uhpc",
             Name::Deck => "deck",
             Name::Steel => "steel",
+            Name::Points => "points",
             Name::Stress => "stress",
+            Name::Reach => "reach",
         }
     }
 
@@ -49,7 +65,10 @@ impl Name {
                 "expected uhpc MODULUS STRENGTH CRACKING ULTIMATE LOCALIZATION ALPHA GAMMA",
             Name::Deck => "expected deck MODULUS STRENGTH ULTIMATE ALPHA GAMMA",
             Name::Steel => "expected steel MODULUS YIELD RUPTURE ALPHA GAMMA",
+            Name::Points =>
+                "expected points COMPRESSION TENSION and then STRAIN STRESS for each point",
             Name::Stress => "expected stress NUMBER STRAIN",
+            Name::Reach => "expected reach NUMBER STRESS",
         }
     }
 }

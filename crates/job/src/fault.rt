@@ -14,7 +14,7 @@ pub enum Fault {
     Form { name: Name },
     NotReal { place: usize },
     NotWhole { place: usize },
-    NotStrain { place: usize },
+    NotNarrow { place: usize },
 }
 
 impl Fault {
@@ -26,7 +26,7 @@ impl Fault {
             Fault::Form { .. } => None,
             Fault::NotReal { place } => Some(place),
             Fault::NotWhole { place } => Some(place),
-            Fault::NotStrain { place } => Some(place),
+            Fault::NotNarrow { place } => Some(place),
         }
     }
 
@@ -38,7 +38,7 @@ impl Fault {
             Fault::Form { name } => name.form(),
             Fault::NotReal { .. } => "is not a number",
             Fault::NotWhole { .. } => "is not a whole number of 64 bits",
-            Fault::NotStrain { .. } => "is not a strain of 32 bits",
+            Fault::NotNarrow { .. } => "is not a whole number of 32 bits",
         }
     }
 }

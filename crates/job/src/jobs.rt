@@ -10,23 +10,27 @@ ghost use Rattle.job.specs.Commands.{card-name};
 ghost use Rattle.job.specs.Jobs.{Makes, MakesNone, Performed, Remark, Prints};
 use crate::command::Command;
 use crate::command::Name;
-use crate::fault::Fault;
+use crate::material::Material;
+use crate::material::MaterialLaw;
 use crate::printed::Answer;
 use crate::printed::Printed;
 use crate::read::read;
 use cards::two_line::TwoLine;
-use cards::two_line::law::TwoLineLaw;
 use cards::written::WrittenCard;
-use laws::law::Law;
+use kits::kit::Kit;
+use kits::list::ListKit;
+use kits::reach::reach;
+use laws::point::Point;
+use laws::point_law::PointLaw;
 use refusal::Refusal;
 use std::alloc::AllocError;
 use std::alloc::Global;
 use words::words;
 
-// The materials of a job, numbered from 0 in the order in which they were accepted.
+// The materials of a job are one kit, numbered from 0 in the order in which they were accepted.
 #[derive(Drop)]
 pub struct Job {
-    laws: Vec<TwoLine>,
+    materials: Vec<Material>,
 }
 
 fn name_of_card(card: &WrittenCard) -> Name
@@ -74,48 +78,79 @@ fn law_of(card: WrittenCard, alpha: i64, gamma: i64) -> Result<TwoLine, Refusal>
 impl Job {
     // A job with no material yet.
     pub fn new(heap: Global) -> Job
-        ensures { λ r. ⌜ vec-items (r .laws) ≡ [] ⌝ }
+        ensures { λ r. ⌜ vec-items (r .materials) ≡ [] ⌝ }
     {
         Job {
-            laws: Vec::new(heap),
+            materials: Vec::new(heap),
         }
     }
 
-    fn add(&mut self, card: WrittenCard, alpha: i64, gamma: i64) -> Result<Printed, AllocError>
-        ensures { λ r. ⌜ Cases r (λ p. Performed (vec-items (now (self .entry) .laws)) (Command.Material card alpha gamma) p (vec-items (now (self .exit) .laws))) (λ _. vec-items (now (self .exit) .laws) ≡ vec-items (now (self .entry) .laws)) ⌝ }
+    fn add_card(&mut self, card: WrittenCard, alpha: i64, gamma: i64) -> Result<Printed, AllocError>
+        ensures { λ r. ⌜ Cases r (λ p. Performed (vec-items (now (self .entry) .materials)) (Command.Card card alpha gamma) p (vec-items (now (self .exit) .materials))) (λ _. vec-items (now (self .exit) .materials) ≡ vec-items (now (self .entry) .materials)) ⌝ }
     {
         let name = name_of_card(&card);
         match law_of(card, alpha, gamma) {
             Ok(law) => {
-                let number = self.laws.len();
-                self.laws.push(law)?;
-                Ok(Printed::Answered(Answer::Material { name, number, law }))
+                let number = self.materials.len();
+                self.materials.push(Material::Card(law))?;
+                Ok(Printed::Answered(Answer::Card { name, number, law }))
+            }
+            Err(refusal) => Ok(Printed::Refused(refusal)),
+        }
+    }
+
+    fn add_points(
+        &mut self,
+        points: Vec<Point>,
+        compression: i64,
+        tension: i64,
+    ) -> Result<Printed, AllocError>
+        ensures { λ r. ⌜ Cases r (λ p. Performed (vec-items (now (self .entry) .materials)) (Command.Points points compression tension) p (vec-items (now (self .exit) .materials))) (λ _. vec-items (now (self .exit) .materials) ≡ vec-items (now (self .entry) .materials)) ⌝ }
+    {
+        match PointLaw::new(points, compression, tension) {
+            Ok(law) => {
+                let number = self.materials.len();
+                self.materials.push(Material::Points(law))?;
+                Ok(Printed::Answered(Answer::Points { number }))
             }
             Err(refusal) => Ok(Printed::Refused(refusal)),
         }
     }
 
     fn stress(&self, number: i64, strain: i32) -> Printed
-        ensures { λ r. ⌜ Performed (vec-items (now (self .entry) .laws)) (Command.Stress number strain) r (vec-items (now (self .entry) .laws)) ⌝ }
+        ensures { λ r. ⌜ Performed (vec-items (now (self .entry) .materials)) (Command.Stress number strain) r (vec-items (now (self .entry) .materials)) ⌝ }
     {
         let Ok(place) = usize::try_from(number) else {
             return Printed::Refused(Refusal::NoLaw);
         };
-        match self.laws.get(place) {
-            Some(law) => Printed::Answered(Answer::Stress {
-                stress: law.stress(strain),
-            }),
+        match self.materials.stress(place, strain) {
+            Some(stress) => Printed::Answered(Answer::Stress { stress }),
             None => Printed::Refused(Refusal::NoLaw),
+        }
+    }
+
+    fn reach(&self, number: i64, stress: i32) -> Printed
+        ensures { λ r. ⌜ Performed (vec-items (now (self .entry) .materials)) (Command.Reach number stress) r (vec-items (now (self .entry) .materials)) ⌝ }
+    {
+        match reach(&self.materials, number, stress) {
+            Ok(strain) => Printed::Answered(Answer::Reach { strain }),
+            Err(refusal) => Printed::Refused(refusal),
         }
     }
 
     // Does what the command says, and answers the line to print; want of memory changes nothing.
     pub fn perform(&mut self, command: Command) -> Result<Printed, AllocError>
-        ensures { λ r. ⌜ Cases r (λ p. Performed (vec-items (now (self .entry) .laws)) command p (vec-items (now (self .exit) .laws))) (λ _. vec-items (now (self .exit) .laws) ≡ vec-items (now (self .entry) .laws)) ⌝ }
+        ensures { λ r. ⌜ Cases r (λ p. Performed (vec-items (now (self .entry) .materials)) command p (vec-items (now (self .exit) .materials))) (λ _. vec-items (now (self .exit) .materials) ≡ vec-items (now (self .entry) .materials)) ⌝ }
     {
         match command {
-            Command::Material { card, alpha, gamma } => self.add(card, alpha, gamma),
+            Command::Card { card, alpha, gamma } => self.add_card(card, alpha, gamma),
+            Command::Points {
+                points,
+                compression,
+                tension,
+            } => self.add_points(points, compression, tension),
             Command::Stress { number, strain } => Ok(self.stress(number, strain)),
+            Command::Reach { number, stress } => Ok(self.reach(number, stress)),
         }
     }
 
@@ -126,13 +161,13 @@ impl Job {
         number: u64,
         line: &[u8],
     ) -> Result<Option<Printed>, AllocError>
-        ensures { λ r. ⌜ Cases r (λ p. Prints (vec-items (now (self .entry) .laws)) number (now (line .entry)) p (vec-items (now (self .exit) .laws))) (λ _. vec-items (now (self .exit) .laws) ≡ vec-items (now (self .entry) .laws)) ⌝ }
+        ensures { λ r. ⌜ Cases r (λ p. Prints (vec-items (now (self .entry) .materials)) number (now (line .entry)) p (vec-items (now (self .exit) .materials))) (λ _. vec-items (now (self .exit) .materials) ≡ vec-items (now (self .entry) .materials)) ⌝ }
     {
         let words = words(heap, line)?;
         if is_remark(&words) {
             return Ok(None);
         }
-        match read(&words) {
+        match read(heap, &words)? {
             Ok(command) => {
                 let printed = self.perform(command)?;
                 Ok(Some(printed))

@@ -2,6 +2,7 @@
 pub mod command;
 pub mod fault;
 pub mod jobs;
+pub mod material;
 mod numbers;
 pub mod printed;
 pub mod read;

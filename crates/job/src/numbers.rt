@@ -3,12 +3,16 @@ ghost use mathlib.Core.List.{List};
 ghost use mathlib.Core.Path.{_≡_};
 ghost use Prim.Native.Nat.{ℕ};
 ghost use lib.ListN.{length};
+ghost use Rattle.std.specs.Of.Vec.{vec-items};
 ghost use Rattle.std.specs.Options.{Cases as BySome};
 ghost use Rattle.std.specs.Results.{Cases};
+ghost use Rattle.std.specs.Vec.{made};
 ghost use Rattle.std.specs.shelf.Lists.{All};
 ghost use Rattle.refusal.specs.First.{FirstOut};
 ghost use Rattle.words.specs.Words.{texts};
 ghost use Rattle.job.specs.Numbers.{Pairwise, IsReal, IsWhole, Real, Whole};
+use std::alloc::AllocError;
+use std::alloc::Global;
 
 // A sort of number: which words are one, and which number each is.
 pub trait Number: Copy {
@@ -73,4 +77,21 @@ pub(crate) fn numbers<T: Number, const N: usize>(words: &[&[u8]]) -> Result<[T; 
         numbers[i] = x;
     }
     Ok(numbers)
+}
+
+// The same of as many words as there are.
+pub(crate) fn number_list<T: Number + Drop>(
+    heap: Global,
+    words: &[&[u8]],
+) -> Result<Result<Vec<T>, usize>, AllocError>
+    ensures { λ r. ⌜ made r (λ read. Cases read (λ xs. All (T·Number .form) (texts (now (words .entry))) × Pairwise (T·Number .value) (texts (now (words .entry))) (vec-items xs)) (λ p. FirstOut (T·Number .form) (texts (now (words .entry))) p)) ⌝ }
+{
+    let mut numbers = Vec::new(heap);
+    for i in 0..words.len() {
+        let Some(x) = T::read(words[i]) else {
+            return Ok(Err(i));
+        };
+        numbers.push(x)?;
+    }
+    Ok(Ok(numbers))
 }

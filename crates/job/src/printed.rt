@@ -12,13 +12,19 @@ use std::fmt;
 
 #[derive(Clone, Copy)]
 pub enum Answer {
-    Material {
+    Card {
         name: Name,
         number: usize,
         law: TwoLine,
     },
+    Points {
+        number: usize,
+    },
     Stress {
         stress: i32,
+    },
+    Reach {
+        strain: i32,
     },
 }
 
@@ -28,11 +34,13 @@ pub impl fmt::Display for Answer as AnswerDisplay {
 
     fn fmt<W: fmt::Write>(&self, f: &mut fmt::Formatter<W>) -> fmt::Result {
         match self {
-            Answer::Material { name, number, law } => {
+            Answer::Card { name, number, law } => {
                 let word = name.word();
                 write!(f, "{word} {number} {law}")
             }
+            Answer::Points { number } => write!(f, "points {number}"),
             Answer::Stress { stress } => write!(f, "stress {stress}"),
+            Answer::Reach { strain } => write!(f, "reach {strain}"),
         }
     }
 }

@@ -31,7 +31,7 @@ fn remarks_print_nothing(rt: LibcRuntime) -> Result<(), Fail> {
 
 #[test]
 fn unreadable_lines_say_why(rt: LibcRuntime) -> Result<(), Fail> {
-    let lines: [&[u8]; 13] = [
+    let lines: [&[u8]; 18] = [
         b"UHPC 1 2 3 4 5 6 7",
         b"\xff\xfe",
         b"uhpc",
@@ -45,6 +45,11 @@ fn unreadable_lines_say_why(rt: LibcRuntime) -> Result<(), Fail> {
         b"stress - 0",
         b"stress 0 2147483648",
         b"stress 0 -2147483649",
+        b"reach 0 -2147483649",
+        b"reach 0",
+        b"points 1",
+        b"points 1 1 0 0 5",
+        b"points 1 1 0 0 5 x",
     ];
     let out = output(rt.alloc(), &lines)?;
     let want = "E 1 no such command
@@ -58,8 +63,13 @@ E 8 place 5 is not a whole number of 64 bits
 E 9 place 4 is not a whole number of 64 bits
 E 10 place 1 is not a whole number of 64 bits
 E 11 place 0 is not a whole number of 64 bits
-E 12 place 1 is not a strain of 32 bits
-E 13 place 1 is not a strain of 32 bits
+E 12 place 1 is not a whole number of 32 bits
+E 13 place 1 is not a whole number of 32 bits
+E 14 place 1 is not a whole number of 32 bits
+E 15 expected reach NUMBER STRESS
+E 16 expected points COMPRESSION TENSION and then STRAIN STRESS for each point
+E 17 expected points COMPRESSION TENSION and then STRAIN STRESS for each point
+E 18 place 5 is not a whole number of 64 bits
 ";
     check_eq(out.as_str(), want)
 }
@@ -83,6 +93,39 @@ R 8
 steel 0 1000000 1000 1000 2000000 2000000
 uhpc 1 6500000 17000 850 3500000 3825000
 stress -1000
+";
+    check_eq(out.as_str(), want)
+}
+
+#[test]
+fn points_and_reach(rt: LibcRuntime) -> Result<(), Fail> {
+    let lines: [&[u8]; 12] = [
+        b"steel 1000 1 0.002 1 1",
+        b"points 10000000 50000000 0 0 8000000 230000 10000000 245000",
+        b"stress 1 9000000",
+        b"stress 1 -5",
+        b"reach 1 230000",
+        b"reach 1 245000",
+        b"reach 1 245001",
+        b"reach 1 -2147483648",
+        b"reach 0 1000",
+        b"reach 2 0",
+        b"points 0 1 0 0 1 1",
+        b"points 1 1 0 0 0 1",
+    ];
+    let out = output(rt.alloc(), &lines)?;
+    let want = "steel 0 1000000 1000 1000 2000000 2000000
+points 1
+stress 237500
+stress 0
+reach 8000000
+reach 10000000
+R 16
+reach -10000000
+reach 1000000
+R 8
+R 3
+R 4 1
 ";
     check_eq(out.as_str(), want)
 }

@@ -13,3 +13,9 @@ returns-in-Steel c = ap form (sym (c .in-Steel .is))
 
 pub returns-in-Stress : need.returns-in-Stress
 returns-in-Stress c = ap form (sym (c .in-Stress .is))
+
+pub returns-in-Points : need.returns-in-Points
+returns-in-Points c = ap form (sym (c .in-Points .is))
+
+pub returns-in-Reach : need.returns-in-Reach
+returns-in-Reach c = ap form (sym (c .in-Reach .is))

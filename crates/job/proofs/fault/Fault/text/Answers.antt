@@ -11,5 +11,5 @@ returns-in-NotReal c = ap text (sym (c .in-NotReal .is))
 pub returns-in-NotWhole : need.returns-in-NotWhole
 returns-in-NotWhole c = ap text (sym (c .in-NotWhole .is))
 
-pub returns-in-NotStrain : need.returns-in-NotStrain
-returns-in-NotStrain c = ap text (sym (c .in-NotStrain .is))
+pub returns-in-NotNarrow : need.returns-in-NotNarrow
+returns-in-NotNarrow c = ap text (sym (c .in-NotNarrow .is))
