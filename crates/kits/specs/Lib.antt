@@ -1,0 +1,3 @@
+pub mod Kits
+pub mod KitsLawful
+pub mod Joined
