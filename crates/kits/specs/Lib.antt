@@ -1,3 +1,4 @@
 pub mod Kits
 pub mod KitsLawful
 pub mod Joined
+pub mod Reach

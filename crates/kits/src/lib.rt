@@ -1,5 +1,6 @@
-// Kits: laws by number, and how kits are joined.
+// Kits: laws by number, how kits are joined, and the strain at which a law of a kit reaches a stress.
 pub mod joined;
 pub mod kit;
 pub mod list;
+pub mod reach;
 pub mod single;
