@@ -4,3 +4,5 @@ pub mod kit;
 pub mod list;
 pub mod reach;
 pub mod single;
+#[cfg(test)]
+mod tests;
