@@ -34,6 +34,12 @@ pub numbered-past : (laws : List Meaning) (number : ℤ) → pos (counted laws) 
 numbered-past laws (pos n) h = reached-none laws n (omega (arith, ints))
 numbered-past laws (negsuc n) h = refl
 
+-- a number that was taken has limits
+pub never-none : (laws : List Meaning) (number : ℤ) (n : ℕ) → NumberTaken laws number n → None ≡ limits-at laws n → ⊥
+never-none laws number n taken none =
+    let e : _≡_ {A = Option Limits} None (Some (limits-of (taken .law))) = none ∙ ap (mapped limits-of) (taken .law-is) in
+    let z : _≡_ {A = ℕ} 0 1 = cc in omega arith
+
 -- ---- the law of a number that was taken, and the limits that were read by it
 
 module _ (laws : List Meaning) (number : ℤ) (n : ℕ) (taken : NumberTaken laws number n)

@@ -58,7 +58,10 @@ pub fn reach<K: Kit>(kit: &K, number: i64, stress: i32) -> Result<i32, Refusal>
     ensures { λ r. ⌜ Reaches (laws (now (kit .entry))) number stress r ⌝ }
 {
     let number = law_number(kit, number)? as usize;
-    let (first, last) = ends(kit.limits(number).unwrap());
+    let Some(limits) = kit.limits(number) else {
+        return Err(Refusal::NoLaw);
+    };
+    let (first, last) = ends(limits);
     match least(&KitStress { kit, number }, first, last, stress as i64) {
         Some(strain) => Ok(strain),
         None => Err(Refusal::OutOfReach),
