@@ -1,0 +1,5 @@
+pub mod Kits
+pub mod KitsLawful
+pub mod Joined
+pub mod Reach
+pub mod Step
