@@ -1,0 +1,2 @@
+pub mod Fibres
+pub mod Asked

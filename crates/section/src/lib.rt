@@ -1,0 +1,3 @@
+// A section of fibres, and what it answers at a curvature.
+pub mod fibre;
+pub mod ends;
