@@ -1,2 +1,3 @@
 pub mod Fibres
 pub mod Asked
+pub mod Truths
