@@ -1,2 +1,4 @@
 pub mod Force
 pub mod Limits
+pub mod Outcome
+pub mod Finding
