@@ -19,6 +19,7 @@ use Rattle.refusal.specs.declared.Refusal.the-variants.{TooCurved, EmptySection
 use Rattle.laws.specs.Meaning.{Meaning, Lawful}
 use Rattle.section.specs.Fibres.{force, moment, Ranged, Admitted}
 use Rattle.section.specs.Asked.{Least, Greatest, least-for, greatest-for, SetsLeast, SetsGreatest, Askable, Balanced, Asked}
+use Rattle.section.specs.Truths.{Exactly}
 use Rattle.section.specs.declared.fibre.Fibre.{Fibre}
 use Rattle.section.specs.declared.ends.Ends.{Ends}
 use Rattle.section.proofs.Limits.{admitted-range}
@@ -116,3 +117,74 @@ last-between value load low high h k =
     (negℤ (r .0), omega (arith, ints), omega (arith, ints), omega (arith, ints), λ y l m.
       let n = r .4 (negℤ y) (omega (arith, ints)) (subst (λ z. negℤ load ≤ℤ negℤ (value z)) (sym (back y)) (omega (arith, ints))) in
       omega (arith, ints))
+
+module _ (laws : List Meaning) (lawful : All Lawful laws) (f : Fibre) (rest : List Fibre) (ranged : All Ranged (f ∷ rest)) (load : ℤ) (depth curvature : ℕ) (small : curvature ≤ 65535) where
+  askable : Askable (f ∷ rest) curvature
+  askable = (small, λ e. let z : _≡_ {A = ℕ} 0 1 = cc in omega arith)
+
+  module _ (p q : ℕ) (s : SetsLeast laws (f ∷ rest) curvature p) (t : SetsGreatest laws (f ∷ rest) curvature q) (low high : ℤ)
+      (range : (top : ℤ) → Exactly (Admitted laws (f ∷ rest) curvature top) ((low ≤ℤ top) × (top ≤ℤ high))) where
+    answered : low ≤ℤ high → force laws (f ∷ rest) curvature low ≤ℤ load → load ≤ℤ force laws (f ∷ rest) curvature high
+        → (o : Result Ends Refusal) × Asked laws (f ∷ rest) load depth curvature o
+    answered wide below above =
+        let x = first-between (force laws (f ∷ rest) curvature) load low high wide above in
+        let y = last-between (force laws (f ∷ rest) curvature) load low high wide below in
+        (Ok (record {
+          first = x .0;
+          last = y .0;
+          «first_moment» = moment laws (f ∷ rest) load depth curvature (x .0);
+          «last_moment» = moment laws (f ∷ rest) load depth curvature (y .0);
+        }), (askable, record {
+          first-end = record { holds = (range (x .0) .1 (x .1, x .2), x .3); first = λ z h. x .4 z (range z .0 (h .0) .0) (h .1) };
+          last-end = record { holds = (range (y .0) .1 (y .1, y .2), y .3); last = λ z h. y .4 z (range z .0 (h .0) .1) (h .1) };
+          first-moment-is = refl;
+          last-moment-is = refl;
+        }))
+
+    outcome-in : (o : Result Ends Refusal) × Asked laws (f ∷ rest) load depth curvature o
+    outcome-in = by-ltZ high low
+        (λ crossed. (Err (NoneAdmitted p q), inr (inr (inl (record {
+          askable = askable;
+          none = λ top a. let h = range top .0 a in omega (arith, ints);
+          compressed = p;
+          sets-least = s;
+          stretched = q;
+          sets-greatest = t;
+          says = record { number-is = refl; places-are = refl };
+        })))))
+        (λ wide. by-ltZ load (force laws (f ∷ rest) curvature low)
+          (λ above. (Err (Crushed p), inr (inr (inr (inl (record {
+            askable = askable;
+            least = low;
+            is-least = record { holds = range low .1 (omega (arith, ints), wide); first = λ y a. range y .0 a .0 };
+            above = above;
+            place = p;
+            sets-least = s;
+            says = record { number-is = refl; places-are = refl };
+          }))))))
+          (λ below. by-ltZ (force laws (f ∷ rest) curvature high) load
+            (λ short. (Err (Parted q), inr (inr (inr (inr (record {
+              askable = askable;
+              greatest = high;
+              is-greatest = record { holds = range high .1 (wide, omega (arith, ints)); last = λ y a. range y .0 a .1 };
+              below = short;
+              place = q;
+              sets-greatest = t;
+              says = record { number-is = refl; places-are = refl };
+            }))))))
+            (answered wide below)))
+
+  outcome-of : (o : Result Ends Refusal) × Asked laws (f ∷ rest) load depth curvature o
+  outcome-of =
+      let s = sets-least laws curvature f rest in
+      let t = sets-greatest laws curvature f rest in
+      outcome-in (s .0) (t .0) (s .1) (t .1) _ _ (admitted-range laws lawful (f ∷ rest) ranged curvature small (s .0) (t .0) (s .1) (t .1))
+
+pub has-outcome : (laws : List Meaning) → All Lawful laws → (fibres : List Fibre) → All Ranged fibres → (load : ℤ) (depth curvature : ℕ)
+    → (o : Result Ends Refusal) × Asked laws fibres load depth curvature o
+has-outcome laws lawful [] ranged load depth curvature = elim (cases-lt 65535 curvature) [
+    inl l ↦ (Err TooCurved, inl (l, record { number-is = refl; places-are = refl }))
+  | inr l ↦ (Err EmptySection, inr (inl (l, refl, record { number-is = refl; places-are = refl }))) ]
+has-outcome laws lawful (f ∷ rest) ranged load depth curvature = elim (cases-lt 65535 curvature) [
+    inl l ↦ (Err TooCurved, inl (l, record { number-is = refl; places-are = refl }))
+  | inr l ↦ outcome-of laws lawful f rest ranged load depth curvature l ]
