@@ -2,3 +2,4 @@ pub mod Force
 pub mod Limits
 pub mod Outcome
 pub mod Finding
+pub mod Standing

@@ -1,3 +1,4 @@
 // A section of fibres, and what it answers at a curvature.
 pub mod fibre;
 pub mod ends;
+pub mod truths;
