@@ -3,3 +3,4 @@ pub mod Limits
 pub mod Outcome
 pub mod Finding
 pub mod Standing
+pub mod Neighbours

@@ -2,3 +2,4 @@
 pub mod fibre;
 pub mod ends;
 pub mod truths;
+pub mod worked;
