@@ -1,4 +1,4 @@
--- How the ends lie, when an ask is refused, and what a refusal's fibre does.
+-- How the ends lie and when an ask is refused; with the rest, what every ask is true to.
 use lib.IntN.{ℤ, pos, negℤ, _+ℤ_}
 use lib.Signed.{_≤ℤ_, _<ℤ_}
 use Prim.Native.Nat.{ℕ, _≤_}
@@ -13,14 +13,15 @@ use Rattle.std.proofs.shelf.Signed.{ints, by-ltZ}
 use Rattle.refusal.specs.declared.Refusal.{Refusal}
 use Rattle.laws.specs.Meaning.{Meaning, Lawful}
 use Rattle.section.specs.Fibres.{force, Ranged, TopStrain, Admitted}
-use Rattle.section.specs.Asked.{Balanced, least-for, greatest-for, SetsLeast, SetsGreatest, Askable, NoneAdmitted, Crushed, Parted, Asked}
-use Rattle.section.specs.Truths.{Exactly, Only, Balances, Alone, Apart, Enclosing, Enclosed, Crushes, Parts, Causes, OneOutcome, TruthsOf}
+use Rattle.section.specs.Asked.{Askable, Asked}
+use Rattle.section.specs.Truths.{Exactly, Only, Balances, Enclosing, TruthsOf}
 use Rattle.section.specs.declared.fibre.Fibre.{Fibre}
 use Rattle.section.specs.declared.ends.Ends.{Ends}
 use Rattle.section.proofs.Force.{force-rises}
-use Rattle.section.proofs.Limits.{admitted-between, admitted-range, least-admitted, greatest-admitted}
+use Rattle.section.proofs.Limits.{admitted-between, admitted-range}
 use Rattle.section.proofs.Outcome.{crushed-above, parted-below, one-outcome}
 use Rattle.section.proofs.Finding.{has-outcome}
+use Rattle.section.proofs.Causes.{causes-of}
 
 module _ (laws : List Meaning) (lawful : All Lawful laws) (fibres : List Fibre) (ranged : All Ranged fibres) (load : ℤ) (depth curvature : ℕ) where
   rises : curvature ≤ 65535 → (x y : ℤ) → TopStrain x → TopStrain y → x ≤ℤ y → force laws fibres curvature x ≤ℤ force laws fibres curvature y
@@ -40,20 +41,20 @@ module _ (laws : List Meaning) (lawful : All Lawful laws) (fibres : List Fibre) 
     last-enough = asked .1 .last-end .holds .1
 
     -- what balances the load lies from the first end to the last
-    balances-from : (top : ℤ) → Balances laws fibres load depth curvature top → e .first ≤ℤ top
+    balances-from : (top : ℤ) → Balances laws fibres load curvature top → e .first ≤ℤ top
     balances-from top b = let h = b .1 in asked .1 .first-end .first top (b .0, omega (arith, ints))
 
-    balances-to : (top : ℤ) → Balances laws fibres load depth curvature top → top ≤ℤ e .last
+    balances-to : (top : ℤ) → Balances laws fibres load curvature top → top ≤ℤ e .last
     balances-to top b = let h = b .1 in asked .1 .last-end .last top (b .0, omega (arith, ints))
 
     -- where the first end is not past some top strain that balances the load or the last end, it balances the load, and so with the last
-    first-balances : (top : ℤ) → TopStrain top → force laws fibres curvature top ≤ℤ load → e .first ≤ℤ top → Balances laws fibres load depth curvature (e .first)
+    first-balances : (top : ℤ) → TopStrain top → force laws fibres curvature top ≤ℤ load → e .first ≤ℤ top → Balances laws fibres load curvature (e .first)
     first-balances top t b h =
         let r = rises (asked .0 .0) (e .first) top (first-in .0) t h in
         let f = first-enough in
         (first-in, omega (arith, ints))
 
-    last-balances : (top : ℤ) → TopStrain top → load ≤ℤ force laws fibres curvature top → top ≤ℤ e .last → Balances laws fibres load depth curvature (e .last)
+    last-balances : (top : ℤ) → TopStrain top → load ≤ℤ force laws fibres curvature top → top ≤ℤ e .last → Balances laws fibres load curvature (e .last)
     last-balances top t b h =
         let r = rises (asked .0 .0) top (e .last) t (last-in .0) h in
         let f = last-enough in
@@ -68,7 +69,7 @@ module _ (laws : List Meaning) (lawful : All Lawful laws) (fibres : List Fibre) 
           (λ above. let k = asked .1 .first-end .first (e .last +ℤ pos 1) (next, omega (arith, ints)) in omega (arith, ints))
           (λ below. let k = asked .1 .last-end .last (e .last +ℤ pos 1) (next, below) in absurd (omega (arith, ints)))
 
-    ends-meet : Exactly (e .first ≡ e .last) (Only (Balances laws fibres load depth curvature))
+    ends-meet : Exactly (e .first ≡ e .last) (Only (Balances laws fibres load curvature))
     ends-meet =
         (λ h. (e .first, first-balances (e .last) (last-in .0) last-enough (omega (arith, ints)), λ y b.
             let k = balances-from y b in let l = balances-to y b in omega (arith, ints)),
@@ -79,13 +80,13 @@ module _ (laws : List Meaning) (lawful : All Lawful laws) (fibres : List Fibre) 
             let y = o .2 (e .last) (last-balances (o .0) (b .0 .0) (omega (arith, ints)) (balances-to (o .0) b)) in
             omega (arith, ints))
 
-    ends-part : ((top : ℤ) → Balances laws fibres load depth curvature top → ⊥) → e .first ≡ e .last +ℤ pos 1
+    ends-part : ((top : ℤ) → Balances laws fibres load curvature top → ⊥) → e .first ≡ e .last +ℤ pos 1
     ends-part none = by-ltZ (e .last) (e .first) ends-near (λ h. absurd (none (e .first) (first-balances (e .last) (last-in .0) last-enough h)))
 
-    ends-pass : (top : ℤ) → Balances laws fibres load depth curvature top → e .first ≤ℤ e .last
+    ends-pass : (top : ℤ) → Balances laws fibres load curvature top → e .first ≤ℤ e .last
     ends-pass top b = let h = balances-from top b in let k = balances-to top b in omega (arith, ints)
 
-    ends-enclose : Enclosing laws fibres load depth curvature
+    ends-enclose : Enclosing laws fibres load curvature
     ends-enclose = by-ltZ (e .last) (e .first)
         (λ h. record { lower = e .last; upper = e .first; near = inr (ends-near h); lower-in = last-in; upper-in = first-in; below = last-enough; above = first-enough })
         (λ h.
@@ -93,7 +94,7 @@ module _ (laws : List Meaning) (lawful : All Lawful laws) (fibres : List Fibre) 
           let k = b .1 in
           record { lower = e .first; upper = e .first; near = inl refl; lower-in = first-in; upper-in = first-in; below = omega (arith, ints); above = first-enough })
 
-  refused-open : (r : Refusal) → Askable fibres curvature → Asked laws fibres load depth curvature (Err r) → Enclosing laws fibres load depth curvature → ⊥
+  refused-open : (r : Refusal) → Askable fibres curvature → Asked laws fibres load depth curvature (Err r) → Enclosing laws fibres load curvature → ⊥
   refused-open r askable (inl c) n = let h = c .0 in let k = askable .0 in omega arith
   refused-open r askable (inr (inl c)) n = askable .1 (c .1)
   refused-open r askable (inr (inr (inl c))) n = c .none (n .lower) (n .lower-in)
@@ -102,36 +103,10 @@ module _ (laws : List Meaning) (lawful : All Lawful laws) (fibres : List Fibre) 
   refused-open r askable (inr (inr (inr (inr c)))) n =
       let h = parted-below laws lawful fibres ranged load depth curvature r c (n .upper) (n .upper-in) in let k = n .above in omega (arith, ints)
 
-  open-refused : (o : Result Ends Refusal) → Asked laws fibres load depth curvature o → (Enclosing laws fibres load depth curvature → ⊥)
+  open-refused : (o : Result Ends Refusal) → Asked laws fibres load depth curvature o → (Enclosing laws fibres load curvature → ⊥)
       → (r : Refusal) × Asked laws fibres load depth curvature (Err r)
   open-refused (Ok e) a none = absurd (none (ends-enclose e a))
   open-refused (Err r) a none = (r, a)
-
-  module _ (r : Refusal) (top : ℤ) (t : TopStrain top) where
-    none-cause : (c : NoneAdmitted laws fibres curvature r) → Crushes laws curvature top (c .sets-least .fibre) ⊎ Parts laws curvature top (c .sets-greatest .fibre)
-    none-cause c = by-ltZ top (least-for laws curvature (c .sets-least .fibre))
-        (λ h. inl (omega (arith, ints)))
-        (λ h. by-ltZ (greatest-for laws curvature (c .sets-greatest .fibre)) top
-          (λ k. inr (omega (arith, ints)))
-          (λ k. absurd (c .none top (admitted-range laws lawful fibres ranged curvature (c .askable .0) _ _ (c .sets-least) (c .sets-greatest) top .1 (h, k)))))
-
-    crushed-cause : (c : Crushed laws fibres load curvature r) → force laws fibres curvature top ≤ℤ load → Crushes laws curvature top (c .sets-least .fibre)
-    crushed-cause c b = by-ltZ top (least-for laws curvature (c .sets-least .fibre))
-        (λ h. omega (arith, ints))
-        (λ h.
-          let a = least-admitted laws lawful fibres ranged curvature (c .askable .0) (c .place) (c .sets-least) (c .least) (c .is-least .holds) in
-          let l = rises (c .askable .0) (least-for laws curvature (c .sets-least .fibre)) top (a .0) t h in
-          let k = crushed-above laws lawful fibres ranged load depth curvature r c (least-for laws curvature (c .sets-least .fibre)) a in
-          absurd (omega (arith, ints)))
-
-    parted-cause : (c : Parted laws fibres load curvature r) → load ≤ℤ force laws fibres curvature top → Parts laws curvature top (c .sets-greatest .fibre)
-    parted-cause c b = by-ltZ (greatest-for laws curvature (c .sets-greatest .fibre)) top
-        (λ h. omega (arith, ints))
-        (λ h.
-          let a = greatest-admitted laws lawful fibres ranged curvature (c .askable .0) (c .place) (c .sets-greatest) (c .greatest) (c .is-greatest .holds) in
-          let l = rises (c .askable .0) top (greatest-for laws curvature (c .sets-greatest .fibre)) t (a .0) h in
-          let k = parted-below laws lawful fibres ranged load depth curvature r c (greatest-for laws curvature (c .sets-greatest .fibre)) a in
-          absurd (omega (arith, ints)))
 
   pub truths-of : TruthsOf laws fibres load depth curvature
   truths-of =
@@ -143,5 +118,5 @@ module _ (laws : List Meaning) (lawful : All Lawful laws) (fibres : List Fibre) 
         alone = ends-meet;
         apart = λ e a. (ends-part e a, ends-pass e a);
         enclosed = λ askable. (λ a. refused-open (a .0) askable (a .1), open-refused (o .0) (o .1));
-        causes = λ r top t. record { none = none-cause r top t; crushed = crushed-cause r top t; parted = parted-cause r top t };
+        causes = causes-of laws lawful fibres ranged load depth curvature;
       }
