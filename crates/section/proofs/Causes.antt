@@ -1,8 +1,8 @@
 -- What the fibres that a refusal names do: they bar every top strain that would meet the load.
-use lib.IntN.{ℤ, pos}
+use lib.IntN.{ℤ}
 use lib.Signed.{_≤ℤ_}
 use Prim.Native.Nat.{ℕ}
-use mathlib.Core.List.{List, [], _∷_}
+use mathlib.Core.List.{List}
 use mathlib.Core.Logic.{_⊎_, inl, inr}
 use mathlib.Core.Path.{_≡_, sym, subst, subst₂, _∙_}
 use native.Mathlib.Omega.{arith}

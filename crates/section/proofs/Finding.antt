@@ -3,22 +3,21 @@ use lib.IntN.{ℤ, pos, negℤ, natAbs, _+ℤ_, _-ℤ_}
 use lib.Signed.{_≤ℤ_, _<ℤ_}
 use Prim.Native.Nat.{ℕ, zero, suc, _≤_, _<_}
 use mathlib.Core.List.{List, [], _∷_}
-use mathlib.Core.Logic.{_⊎_, inl, inr}
+use mathlib.Core.Logic.{inl, inr}
 use mathlib.Core.Path.{_≡_, refl, sym, subst}
 use native.Mathlib.Omega.{arith}
-use Rattle.std.specs.declared.option.Option.the-variants.{Some, None}
+use Rattle.std.specs.declared.option.Option.the-variants.{Some}
 use Rattle.std.specs.declared.result.Result.{Result}
 use Rattle.std.specs.declared.result.Result.the-variants.{Ok, Err}
 use Rattle.std.specs.shelf.Lists.{All}
 use Rattle.std.specs.shelf.Maps.{nth}
 use Rattle.std.proofs.shelf.Signed.{ints, by-ltZ}
 use Rattle.std.proofs.shelf.Tests.{cases-lt}
-use Rattle.refusal.specs.Refusals.{Says}
 use Rattle.refusal.specs.declared.Refusal.{Refusal}
 use Rattle.refusal.specs.declared.Refusal.the-variants.{TooCurved, EmptySection, NoneAdmitted, Crushed, Parted}
 use Rattle.laws.specs.Meaning.{Meaning, Lawful}
 use Rattle.section.specs.Fibres.{force, moment, Ranged, Admitted}
-use Rattle.section.specs.Asked.{Least, Greatest, least-for, greatest-for, SetsLeast, SetsGreatest, Askable, Balanced, Asked}
+use Rattle.section.specs.Asked.{least-for, greatest-for, SetsLeast, SetsGreatest, Askable, Asked}
 use Rattle.section.specs.Truths.{Exactly}
 use Rattle.section.specs.declared.fibre.Fibre.{Fibre}
 use Rattle.section.specs.declared.ends.Ends.{Ends}
@@ -82,9 +81,10 @@ module _ (laws : List Meaning) (curvature : ℕ) (f : Fibre) (fibres : List Fibr
         lowest = λ q g l e. let k = h .1 .lowest q g l e in omega (arith, ints);
       })
 
--- the first of n + 1 numbers up from one, and the last of those down from one, at which a value passes the load
+-- the first of n + 1 numbers, up from the lowest, at which a value is not below the load
 module _ (value : ℤ → ℤ) (load : ℤ) where
-  first-up : (n : ℕ) (low : ℤ) → load ≤ℤ value (low +ℤ pos n) → (x : ℤ) × (low ≤ℤ x) × (x ≤ℤ (low +ℤ pos n)) × (load ≤ℤ value x) × ((y : ℤ) → low ≤ℤ y → load ≤ℤ value y → x ≤ℤ y)
+  first-up : (n : ℕ) (low : ℤ) → load ≤ℤ value (low +ℤ pos n)
+      → (x : ℤ) × (low ≤ℤ x) × (x ≤ℤ (low +ℤ pos n)) × (load ≤ℤ value x) × ((y : ℤ) → low ≤ℤ y → load ≤ℤ value y → x ≤ℤ y)
   first-up zero low h = (low, omega (arith, ints), omega (arith, ints), (let e : low +ℤ pos 0 ≡ low = omega (arith, ints) in subst (λ z. load ≤ℤ value z) e h), λ y l k. l)
   first-up (suc n) low h = by-ltZ (value low) load
       (λ below.
@@ -97,6 +97,7 @@ module _ (value : ℤ → ℤ) (load : ℤ) where
           (λ here. let s : y ≡ low = omega (arith, ints) in let m = subst (λ z. load ≤ℤ value z) s k in absurd (omega (arith, ints)))))
       (λ at. (low, omega (arith, ints), omega (arith, ints), at, λ y l k. l))
 
+-- the same from low to high, and the last number there at which a value is not above the load
 pub first-between : (value : ℤ → ℤ) (load low high : ℤ) → low ≤ℤ high → load ≤ℤ value high
     → (x : ℤ) × (low ≤ℤ x) × (x ≤ℤ high) × (load ≤ℤ value x) × ((y : ℤ) → low ≤ℤ y → load ≤ℤ value y → x ≤ℤ y)
 first-between value load low high h k =
@@ -118,7 +119,8 @@ last-between value load low high h k =
       let n = r .4 (negℤ y) (omega (arith, ints)) (subst (λ z. negℤ load ≤ℤ negℤ (value z)) (sym (back y)) (omega (arith, ints))) in
       omega (arith, ints))
 
-module _ (laws : List Meaning) (lawful : All Lawful laws) (f : Fibre) (rest : List Fibre) (ranged : All Ranged (f ∷ rest)) (load : ℤ) (depth curvature : ℕ) (small : curvature ≤ 65535) where
+module _ (laws : List Meaning) (lawful : All Lawful laws) (f : Fibre) (rest : List Fibre) (ranged : All Ranged (f ∷ rest))
+    (load : ℤ) (depth curvature : ℕ) (small : curvature ≤ 65535) where
   askable : Askable (f ∷ rest) curvature
   askable = (small, λ e. let z : _≡_ {A = ℕ} 0 1 = cc in omega arith)
 

@@ -27,6 +27,10 @@ use Rattle.section.specs.declared.fibre.Fibre.{Fibre}
 abbrev pub Within : ℕ → ℤ → Type 0
 Within bound z = (negℤ (pos bound) ≤ℤ z) × (z ≤ℤ pos bound)
 
+-- the sum of area × stress × depth
+abbrev pub turns : List Meaning → List Fibre → ℕ → ℤ → ℤ
+turns laws fibres curvature top = folded (λ sum f. sum +ℤ pull laws curvature top f *ℤ pos (f .depth)) (pos 0) fibres
+
 no-law-lawful : Lawful no-law
 no-law-lawful = record {
   low = λ z f. omega (arith, ints);
@@ -104,12 +108,23 @@ module _ (laws : List Meaning) (lawful : All Lawful laws) (curvature : ℕ) (sma
       scaled-within (f .area) 2000000 300000 _ (r .area-most) (law .low (strain curvature top f) fits, law .high (strain curvature top f) fits)
 
   pub turn-within : (f : Fibre) → Ranged f → Within 2457600000000000 (pull laws curvature top f *ℤ pos (f .depth))
-  turn-within f r = subst (Within 2457600000000000) (*ℤ-comm (pos (f .depth)) (pull laws curvature top f)) (scaled-within (f .depth) 4096 600000000000 _ (r .depth-most) (pull-within f r))
+  turn-within f r = subst (Within 2457600000000000) (*ℤ-comm (pos (f .depth)) (pull laws curvature top f))
+      (scaled-within (f .depth) 4096 600000000000 _ (r .depth-most) (pull-within f r))
 
   pub force-within : (fibres : List Fibre) → All Ranged fibres → Within (length fibres * 600000000000) (force laws fibres curvature top)
   force-within fibres ranged =
-      let w = sum-within 600000000000 (pull laws curvature top) fibres (all-weaker Ranged _ pull-within fibres ranged) 0 (pos 0) (omega (arith, ints), omega (arith, ints)) in
+      let w = sum-within 600000000000 (pull laws curvature top) fibres (all-weaker Ranged _ pull-within fibres ranged) 0 (pos 0)
+          (omega (arith, ints), omega (arith, ints)) in
       (omega (arith, ints), omega (arith, ints))
 
   pub force-fits : (fibres : List Fibre) → All Ranged fibres → length fibres ≤ 512 → SFits w64 (force laws fibres curvature top)
   force-fits fibres ranged few = let w = force-within fibres ranged in omega (arith, ints)
+
+  pub turns-within : (fibres : List Fibre) → All Ranged fibres → Within (length fibres * 2457600000000000) (turns laws fibres curvature top)
+  turns-within fibres ranged =
+      let w = sum-within 2457600000000000 (λ f. pull laws curvature top f *ℤ pos (f .depth)) fibres (all-weaker Ranged _ turn-within fibres ranged) 0 (pos 0)
+          (omega (arith, ints), omega (arith, ints)) in
+      (omega (arith, ints), omega (arith, ints))
+
+  pub turns-fit : (fibres : List Fibre) → All Ranged fibres → length fibres ≤ 512 → SFits w64 (turns laws fibres curvature top)
+  turns-fit fibres ranged few = let w = turns-within fibres ranged in omega (arith, ints)

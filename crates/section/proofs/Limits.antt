@@ -1,15 +1,15 @@
 -- Which top strains the limits admit, and which fibres set the least and the greatest.
-use lib.IntN.{ℤ, pos, negℤ, _-ℤ_}
-use lib.Signed.{_≤ℤ_, _<ℤ_}
-use Prim.Native.Nat.{ℕ, zero, suc, _*_, _≤_, _<_}
+use lib.IntN.{ℤ}
+use lib.Signed.{_≤ℤ_}
+use Prim.Native.Nat.{ℕ, zero, suc, _≤_}
 use mathlib.Core.List.{List, [], _∷_}
-use mathlib.Core.Logic.{_⊎_, inl, inr}
+use mathlib.Core.Logic.{inl, inr}
 use mathlib.Core.Path.{_≡_, refl, subst}
 use native.Mathlib.Omega.{arith}
-use Rattle.std.specs.declared.option.Option.the-variants.{Some, None}
+use Rattle.std.specs.declared.option.Option.the-variants.{Some}
 use Rattle.std.specs.shelf.Lists.{All}
 use Rattle.std.specs.shelf.Maps.{nth}
-use Rattle.std.proofs.shelf.Signed.{ints, by-ltZ}
+use Rattle.std.proofs.shelf.Signed.{ints}
 use Rattle.std.proofs.shelf.Tests.{cases-order}
 use Rattle.laws.specs.Meaning.{Meaning, Lawful}
 use Rattle.section.specs.Fibres.{law-of, strain, Ranged, TopStrain, Inside, Admitted}
@@ -66,7 +66,7 @@ admitted-between laws fibres curvature x y z a b h k = admitted-from laws fibres
     (omega (arith, ints), omega (arith, ints)))
 
 module _ (laws : List Meaning) (lawful : All Lawful laws) (fibres : List Fibre) (ranged : All Ranged fibres) (curvature : ℕ) (small : curvature ≤ 65535) where
-  -- the limits of a fibre lie within those of the top strain
+  -- what lies between the limits of two fibres is a top strain
   limits-in : (top : ℤ) (f g : Fibre) → Ranged f → Ranged g → least-for laws curvature f ≤ℤ top → top ≤ℤ greatest-for laws curvature g → TopStrain top
   limits-in top f g r s h k =
       let c = law-of-lawful laws lawful f .compression-in in
@@ -82,15 +82,17 @@ module _ (laws : List Meaning) (lawful : All Lawful laws) (fibres : List Fibre) 
          (limits-in top (s .fibre) (t .fibre) (all-nth Ranged fibres ranged p (s .fibre) (s .stands)) (all-nth Ranged fibres ranged q (t .fibre) (t .stands)) (h .0) (h .1))
          (λ i f e. let a = s .most i f e in let b = t .least i f e in (omega (arith, ints), omega (arith, ints))))
 
-  -- the least admitted top strain is that of the fibre that sets it
-  pub least-admitted : (p : ℕ) (s : SetsLeast laws fibres curvature p) (top : ℤ) → Admitted laws fibres curvature top → Admitted laws fibres curvature (least-for laws curvature (s .fibre))
+  -- where any top strain is admitted, so are those at which the limits that set the range are met
+  pub least-admitted : (p : ℕ) (s : SetsLeast laws fibres curvature p) (top : ℤ) → Admitted laws fibres curvature top
+      → Admitted laws fibres curvature (least-for laws curvature (s .fibre))
   least-admitted p s top a =
       let r = all-nth Ranged fibres ranged p (s .fibre) (s .stands) in
       let b = admitted-at laws fibres curvature top a p (s .fibre) (s .stands) in
       admitted-from laws fibres curvature (least-for laws curvature (s .fibre)) (limits-in _ (s .fibre) (s .fibre) r r (omega (arith, ints)) (omega (arith, ints)))
         (λ i f e. let c = s .most i f e in let d = admitted-at laws fibres curvature top a i f e in (c, omega (arith, ints)))
 
-  pub greatest-admitted : (p : ℕ) (s : SetsGreatest laws fibres curvature p) (top : ℤ) → Admitted laws fibres curvature top → Admitted laws fibres curvature (greatest-for laws curvature (s .fibre))
+  pub greatest-admitted : (p : ℕ) (s : SetsGreatest laws fibres curvature p) (top : ℤ) → Admitted laws fibres curvature top
+      → Admitted laws fibres curvature (greatest-for laws curvature (s .fibre))
   greatest-admitted p s top a =
       let r = all-nth Ranged fibres ranged p (s .fibre) (s .stands) in
       let b = admitted-at laws fibres curvature top a p (s .fibre) (s .stands) in

@@ -1,5 +1,5 @@
 -- An end is known by itself and its neighbour: the force never falls, so nothing past the neighbour is an end.
-use lib.IntN.{ℤ, pos, _+ℤ_, _-ℤ_}
+use lib.IntN.{ℤ, pos, _+ℤ_}
 use lib.Signed.{_≤ℤ_, _<ℤ_}
 use Prim.Native.Nat.{ℕ, _≤_}
 use mathlib.Core.List.{List}

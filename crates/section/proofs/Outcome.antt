@@ -1,7 +1,7 @@
 -- An ask comes to one thing only: the grounds exclude each other, and each determines what it says.
 use lib.IntN.{ℤ, pos}
-use lib.Signed.{_≤ℤ_, _<ℤ_}
-use Prim.Native.Nat.{ℕ, _≤_}
+use lib.Signed.{_<ℤ_}
+use Prim.Native.Nat.{ℕ}
 use mathlib.Core.List.{List, [], _∷_}
 use mathlib.Core.Logic.{_⊎_, inl, inr}
 use mathlib.Core.Path.{_≡_, sym, ap, ap₂, subst}

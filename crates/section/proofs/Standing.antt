@@ -1,10 +1,10 @@
 -- How the ends lie and when an ask is refused; with the rest, what every ask is true to.
-use lib.IntN.{ℤ, pos, negℤ, _+ℤ_}
+use lib.IntN.{ℤ, pos, _+ℤ_}
 use lib.Signed.{_≤ℤ_, _<ℤ_}
 use Prim.Native.Nat.{ℕ, _≤_}
 use mathlib.Core.List.{List}
-use mathlib.Core.Logic.{_⊎_, inl, inr}
-use mathlib.Core.Path.{_≡_, refl, ap, sym, subst}
+use mathlib.Core.Logic.{inl, inr}
+use mathlib.Core.Path.{_≡_, refl}
 use native.Mathlib.Omega.{arith}
 use Rattle.std.specs.declared.result.Result.{Result}
 use Rattle.std.specs.declared.result.Result.the-variants.{Ok, Err}
@@ -47,7 +47,7 @@ module _ (laws : List Meaning) (lawful : All Lawful laws) (fibres : List Fibre) 
     balances-to : (top : ℤ) → Balances laws fibres load curvature top → top ≤ℤ e .last
     balances-to top b = let h = b .1 in asked .1 .last-end .last top (b .0, omega (arith, ints))
 
-    -- where the first end is not past some top strain that balances the load or the last end, it balances the load, and so with the last
+    -- the first end balances the load if it is not past a top strain whose force is not above the load, and likewise the last
     first-balances : (top : ℤ) → TopStrain top → force laws fibres curvature top ≤ℤ load → e .first ≤ℤ top → Balances laws fibres load curvature (e .first)
     first-balances top t b h =
         let r = rises (asked .0 .0) (e .first) top (first-in .0) t h in

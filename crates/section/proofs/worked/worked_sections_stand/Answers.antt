@@ -1,6 +1,6 @@
 use lib.IntN.{ℤ, pos, negℤ, _+ℤ_, _-ℤ_}
-use lib.Signed.{_≤ℤ_, _<ℤ_, leZ, ltZ, leZ-yes, ltZ-yes}
-use lib.Dec.{T, lit≤}
+use lib.Signed.{_≤ℤ_, _<ℤ_, leZ-yes, ltZ-yes}
+use lib.Dec.{lit≤}
 use Prim.Native.Nat.{ℕ, _*_, _≤_}
 use mathlib.Core.List.{[], _∷_}
 use mathlib.Core.Path.{_≡_, refl}
@@ -10,7 +10,7 @@ use Rattle.std.proofs.shelf.Signed.{ints}
 use Rattle.laws.specs.Meaning.{Lawful}
 use Rattle.laws.specs.TwoLine.{elastic, two-line}
 use Rattle.laws.proofs.TwoLine.{two-line-lawful}
-use Rattle.section.specs.Fibres.{force, moment, Ranged, TopStrain, Admitted}
+use Rattle.section.specs.Fibres.{force, moment, Ranged, Admitted}
 use Rattle.section.specs.Worked.{material, layer, layers, Answers}
 use Rattle.section.proofs.Neighbours.{first-by-neighbour, last-by-neighbour}
 use Rattle.section.proofs.worked.worked_sections_stand.Needs as need
