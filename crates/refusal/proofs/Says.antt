@@ -16,8 +16,8 @@ place ps i = natAbs (getD ps i (pos 0))
 abbrev refused : ℕ → List ℤ → Refusal
 refused n ps =
     getD (OutOfReach ∷ CardFigure (place ps 0) ∷ Factor (place ps 0) ∷ PointLawForm ∷ LawPoint (place ps 0) ∷ OutOfTurn ∷ FullSection ∷ FibreFigure (place ps 0)
-        ∷ NoLaw ∷ NoFibre (getD ps 0 (pos 0)) ∷ LoadFigure (place ps 0) ∷ TooCurved ∷ EmptySection ∷ NoneAdmitted (place ps 0) (place ps 1)
-        ∷ Crushed (place ps 0) ∷ Parted (place ps 0) ∷ OutOfReach ∷ []) n OutOfReach
+    ∷ NoLaw ∷ NoFibre (getD ps 0 (pos 0)) ∷ LoadFigure (place ps 0) ∷ TooCurved ∷ EmptySection ∷ NoneAdmitted (place ps 0) (place ps 1)
+    ∷ Crushed (place ps 0) ∷ Parted (place ps 0) ∷ OutOfReach ∷ []) n OutOfReach
 
 refused-again : (r : Refusal) → refused (number r) (places r) ≡ r
 refused-again (CardFigure figure) = refl

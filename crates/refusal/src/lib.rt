@@ -89,8 +89,10 @@ impl Refusal {
             Refusal::LoadFigure { figure } => Places::One(figure as i64),
             Refusal::TooCurved => Places::Nowhere,
             Refusal::EmptySection => Places::Nowhere,
-            Refusal::NoneAdmitted { compressed, stretched } =>
-                Places::Two(compressed as i64, stretched as i64),
+            Refusal::NoneAdmitted {
+                compressed,
+                stretched,
+            } => Places::Two(compressed as i64, stretched as i64),
             Refusal::Crushed { fibre } => Places::One(fibre as i64),
             Refusal::Parted { fibre } => Places::One(fibre as i64),
             Refusal::OutOfReach => Places::Nowhere,

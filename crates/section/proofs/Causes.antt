@@ -52,46 +52,46 @@ module _ (laws : List Meaning) (lawful : All Lawful laws) (fibres : List Fibre) 
     none-cause c = by-ltZ top (least-for laws curvature (c .sets-least .fibre))
         (λ h. inl (c .sets-least .fibre, c .sets-least .stands, omega (arith, ints)))
         (λ h. by-ltZ (greatest-for laws curvature (c .sets-greatest .fibre)) top
-          (λ k. inr (c .sets-greatest .fibre, c .sets-greatest .stands, omega (arith, ints)))
-          (λ k. absurd (c .none top (admitted-range laws lawful fibres ranged curvature (c .askable .0) _ _ (c .sets-least) (c .sets-greatest) top .1 (h, k)))))
+        (λ k. inr (c .sets-greatest .fibre, c .sets-greatest .stands, omega (arith, ints)))
+        (λ k. absurd (c .none top (admitted-range laws lawful fibres ranged curvature (c .askable .0) _ _ (c .sets-least) (c .sets-greatest) top .1 (h, k)))))
 
     crushed-cause : (c : Crushed laws fibres load curvature r) → force laws fibres curvature top ≤ℤ load → Stands fibres (c .place) (Crushes laws curvature top)
     crushed-cause c b = by-ltZ top (least-for laws curvature (c .sets-least .fibre))
         (λ h. (c .sets-least .fibre, c .sets-least .stands, omega (arith, ints)))
         (λ h.
-          let a = least-admitted laws lawful fibres ranged curvature (c .askable .0) (c .place) (c .sets-least) (c .least) (c .is-least .holds) in
-          let l = force-rises laws lawful curvature (c .askable .0) fibres ranged (least-for laws curvature (c .sets-least .fibre)) top (a .0) t h in
-          let k = crushed-above laws lawful fibres ranged load depth curvature r c (least-for laws curvature (c .sets-least .fibre)) a in
-          absurd (omega (arith, ints)))
+        let a = least-admitted laws lawful fibres ranged curvature (c .askable .0) (c .place) (c .sets-least) (c .least) (c .is-least .holds) in
+        let l = force-rises laws lawful curvature (c .askable .0) fibres ranged (least-for laws curvature (c .sets-least .fibre)) top (a .0) t h in
+        let k = crushed-above laws lawful fibres ranged load depth curvature r c (least-for laws curvature (c .sets-least .fibre)) a in
+        absurd (omega (arith, ints)))
 
     parted-cause : (c : Parted laws fibres load curvature r) → load ≤ℤ force laws fibres curvature top → Stands fibres (c .place) (Parts laws curvature top)
     parted-cause c b = by-ltZ (greatest-for laws curvature (c .sets-greatest .fibre)) top
         (λ h. (c .sets-greatest .fibre, c .sets-greatest .stands, omega (arith, ints)))
         (λ h.
-          let a = greatest-admitted laws lawful fibres ranged curvature (c .askable .0) (c .place) (c .sets-greatest) (c .greatest) (c .is-greatest .holds) in
-          let l = force-rises laws lawful curvature (c .askable .0) fibres ranged top (greatest-for laws curvature (c .sets-greatest .fibre)) t (a .0) h in
-          let k = parted-below laws lawful fibres ranged load depth curvature r c (greatest-for laws curvature (c .sets-greatest .fibre)) a in
-          absurd (omega (arith, ints)))
+        let a = greatest-admitted laws lawful fibres ranged curvature (c .askable .0) (c .place) (c .sets-greatest) (c .greatest) (c .is-greatest .holds) in
+        let l = force-rises laws lawful curvature (c .askable .0) fibres ranged top (greatest-for laws curvature (c .sets-greatest .fibre)) t (a .0) h in
+        let k = parted-below laws lawful fibres ranged load depth curvature r c (greatest-for laws curvature (c .sets-greatest .fibre)) a in
+        absurd (omega (arith, ints)))
 
   pub causes-of : Asked laws fibres load depth curvature (Err r) → (top : ℤ) → TopStrain top → Causes laws fibres load curvature r top
   causes-of barred top t = record {
     none = λ p q s.
-      let c = by-13 laws fibres load curvature r _ s barred in
-      let a = s .places-are in
-      let b = c .says .places-are in
-      let e : c .compressed ≡ p = cc in
-      let f : c .stretched ≡ q = cc in
-      subst₂ (λ p q. Stands fibres p (Crushes laws curvature top) ⊎ Stands fibres q (Parts laws curvature top)) e f (none-cause top t c);
+        let c = by-13 laws fibres load curvature r _ s barred in
+        let a = s .places-are in
+        let b = c .says .places-are in
+        let e : c .compressed ≡ p = cc in
+        let f : c .stretched ≡ q = cc in
+        subst₂ (λ p q. Stands fibres p (Crushes laws curvature top) ⊎ Stands fibres q (Parts laws curvature top)) e f (none-cause top t c);
     crushed = λ p s h.
-      let c = by-14 laws fibres load curvature r _ s barred in
-      let a = s .places-are in
-      let b = c .says .places-are in
-      let e : c .place ≡ p = cc in
-      subst (λ p. Stands fibres p (Crushes laws curvature top)) e (crushed-cause top t c h);
+        let c = by-14 laws fibres load curvature r _ s barred in
+        let a = s .places-are in
+        let b = c .says .places-are in
+        let e : c .place ≡ p = cc in
+        subst (λ p. Stands fibres p (Crushes laws curvature top)) e (crushed-cause top t c h);
     parted = λ p s h.
-      let c = by-15 laws fibres load curvature r _ s barred in
-      let a = s .places-are in
-      let b = c .says .places-are in
-      let e : c .place ≡ p = cc in
-      subst (λ p. Stands fibres p (Parts laws curvature top)) e (parted-cause top t c h);
+        let c = by-15 laws fibres load curvature r _ s barred in
+        let a = s .places-are in
+        let b = c .says .places-are in
+        let e : c .place ≡ p = cc in
+        subst (λ p. Stands fibres p (Parts laws curvature top)) e (parted-cause top t c h);
   }

@@ -42,28 +42,37 @@ module _ {X : Type 0} (value : X → ℤ) where
   later-lowest x xs p t h (suc q) y l e = t .lowest q y (omega arith) e
 
   highest : (x : X) (xs : List X) → (p : ℕ) × Highest value (x ∷ xs) p
-  highest x [] = (0, record {
-    item = x;
-    stands = refl;
-    most = first-most x [] (value x) (omega (arith, ints)) (λ q y e. let z : _≡_ {A = ℕ} 0 1 = cc in absurd (omega arith));
-    lowest = λ q y l e. absurd (omega arith);
-  })
+  highest x [] = (
+    0,
+    record {
+      item = x;
+      stands = refl;
+      most = first-most x [] (value x) (omega (arith, ints)) (λ q y e. let z : _≡_ {A = ℕ} 0 1 = cc in absurd (omega arith));
+      lowest = λ q y l e. absurd (omega arith);
+    },
+  )
   highest x (y ∷ ys) =
       let r = highest y ys in
       let t = r .1 in
       by-ltZ (value x) (value (t .item))
-        (λ h. (suc (r .0), record {
+      (λ h. (
+        suc (r .0),
+        record {
           item = t .item;
           stands = t .stands;
           most = first-most x (y ∷ ys) (value (t .item)) (omega (arith, ints)) (t .most);
           lowest = later-lowest x (y ∷ ys) (r .0) t h;
-        }))
-        (λ h. (0, record {
+        },
+      ))
+      (λ h. (
+        0,
+        record {
           item = x;
           stands = refl;
           most = first-most x (y ∷ ys) (value x) (omega (arith, ints)) (λ q z e. let k = t .most q z e in omega (arith, ints));
           lowest = λ q z l e. absurd (omega arith);
-        }))
+        },
+      ))
 
 module _ (laws : List Meaning) (curvature : ℕ) (f : Fibre) (fibres : List Fibre) where
   pub sets-least : (p : ℕ) × SetsLeast laws (f ∷ fibres) curvature p
@@ -73,13 +82,15 @@ module _ (laws : List Meaning) (curvature : ℕ) (f : Fibre) (fibres : List Fibr
 
   pub sets-greatest : (p : ℕ) × SetsGreatest laws (f ∷ fibres) curvature p
   sets-greatest =
-      let h = highest (λ g. negℤ (greatest-for laws curvature g)) f fibres in
-      (h .0, record {
-        fibre = h .1 .item;
-        stands = h .1 .stands;
-        least = λ q g e. let k = h .1 .most q g e in omega (arith, ints);
-        lowest = λ q g l e. let k = h .1 .lowest q g l e in omega (arith, ints);
-      })
+      let h = highest (λ g. negℤ (greatest-for laws curvature g)) f fibres in (
+        h .0,
+        record {
+          fibre = h .1 .item;
+          stands = h .1 .stands;
+          least = λ q g e. let k = h .1 .most q g e in omega (arith, ints);
+          lowest = λ q g l e. let k = h .1 .lowest q g l e in omega (arith, ints);
+        },
+      )
 
 -- the first of n + 1 numbers, up from the lowest, at which a value is not below the load
 module _ (value : ℤ → ℤ) (load : ℤ) where
@@ -88,13 +99,18 @@ module _ (value : ℤ → ℤ) (load : ℤ) where
   first-up zero low h = (low, omega (arith, ints), omega (arith, ints), (let e : low +ℤ pos 0 ≡ low = omega (arith, ints) in subst (λ z. load ≤ℤ value z) e h), λ y l k. l)
   first-up (suc n) low h = by-ltZ (value low) load
       (λ below.
-        let e : low +ℤ pos (suc n) ≡ (low +ℤ pos 1) +ℤ pos n = omega (arith, ints) in
-        let r = first-up n (low +ℤ pos 1) (subst (λ z. load ≤ℤ value z) e h) in
-        let a = r .1 in
-        let b = r .2 in
-        (r .0, omega (arith, ints), omega (arith, ints), r .3, λ y l k. by-ltZ low y
-          (λ past. r .4 y (omega (arith, ints)) k)
-          (λ here. let s : y ≡ low = omega (arith, ints) in let m = subst (λ z. load ≤ℤ value z) s k in absurd (omega (arith, ints)))))
+      let e : low +ℤ pos (suc n) ≡ (low +ℤ pos 1) +ℤ pos n = omega (arith, ints) in
+      let r = first-up n (low +ℤ pos 1) (subst (λ z. load ≤ℤ value z) e h) in
+      let a = r .1 in
+      let b = r .2 in (
+        r .0,
+        omega (arith, ints),
+        omega (arith, ints),
+        r .3,
+        λ y l k. by-ltZ low y
+            (λ past. r .4 y (omega (arith, ints)) k)
+            (λ here. let s : y ≡ low = omega (arith, ints) in let m = subst (λ z. load ≤ℤ value z) s k in absurd (omega (arith, ints))),
+      ))
       (λ at. (low, omega (arith, ints), omega (arith, ints), at, λ y l k. l))
 
 -- the same from low to high, and the last number there at which a value is not above the load
@@ -111,13 +127,18 @@ pub last-between : (value : ℤ → ℤ) (load low high : ℤ) → low ≤ℤ hi
 last-between value load low high h k =
     let back : (z : ℤ) → negℤ (negℤ z) ≡ z = λ z. omega (arith, ints) in
     let r = first-between (λ z. negℤ (value (negℤ z))) (negℤ load) (negℤ high) (negℤ low) (omega (arith, ints))
-        (subst (λ z. negℤ load ≤ℤ negℤ (value z)) (sym (back low)) (omega (arith, ints))) in
+    (subst (λ z. negℤ load ≤ℤ negℤ (value z)) (sym (back low)) (omega (arith, ints))) in
     let a = r .1 in
     let b = r .2 in
-    let c = r .3 in
-    (negℤ (r .0), omega (arith, ints), omega (arith, ints), omega (arith, ints), λ y l m.
-      let n = r .4 (negℤ y) (omega (arith, ints)) (subst (λ z. negℤ load ≤ℤ negℤ (value z)) (sym (back y)) (omega (arith, ints))) in
-      omega (arith, ints))
+    let c = r .3 in (
+      negℤ (r .0),
+      omega (arith, ints),
+      omega (arith, ints),
+      omega (arith, ints),
+      λ y l m.
+          let n = r .4 (negℤ y) (omega (arith, ints)) (subst (λ z. negℤ load ≤ℤ negℤ (value z)) (sym (back y)) (omega (arith, ints))) in
+          omega (arith, ints),
+    )
 
 module _ (laws : List Meaning) (lawful : All Lawful laws) (f : Fibre) (rest : List Fibre) (ranged : All Ranged (f ∷ rest))
     (load : ℤ) (depth curvature : ℕ) (small : curvature ≤ 65535) where
@@ -130,32 +151,42 @@ module _ (laws : List Meaning) (lawful : All Lawful laws) (f : Fibre) (rest : Li
         → (o : Result Ends Refusal) × Asked laws (f ∷ rest) load depth curvature o
     answered wide below above =
         let x = first-between (force laws (f ∷ rest) curvature) load low high wide above in
-        let y = last-between (force laws (f ∷ rest) curvature) load low high wide below in
-        (Ok (record {
-          first = x .0;
-          last = y .0;
-          «first_moment» = moment laws (f ∷ rest) load depth curvature (x .0);
-          «last_moment» = moment laws (f ∷ rest) load depth curvature (y .0);
-        }), (askable, record {
-          first-end = record { holds = (range (x .0) .1 (x .1, x .2), x .3); first = λ z h. x .4 z (range z .0 (h .0) .0) (h .1) };
-          last-end = record { holds = (range (y .0) .1 (y .1, y .2), y .3); last = λ z h. y .4 z (range z .0 (h .0) .1) (h .1) };
-          first-moment-is = refl;
-          last-moment-is = refl;
-        }))
+        let y = last-between (force laws (f ∷ rest) curvature) load low high wide below in (
+          Ok (record {
+            first = x .0;
+            last = y .0;
+            «first_moment» = moment laws (f ∷ rest) load depth curvature (x .0);
+            «last_moment» = moment laws (f ∷ rest) load depth curvature (y .0);
+          }),
+          (
+            askable,
+            record {
+              first-end = record { holds = (range (x .0) .1 (x .1, x .2), x .3); first = λ z h. x .4 z (range z .0 (h .0) .0) (h .1) };
+              last-end = record { holds = (range (y .0) .1 (y .1, y .2), y .3); last = λ z h. y .4 z (range z .0 (h .0) .1) (h .1) };
+              first-moment-is = refl;
+              last-moment-is = refl;
+            },
+          ),
+        )
 
     outcome-in : (o : Result Ends Refusal) × Asked laws (f ∷ rest) load depth curvature o
     outcome-in = by-ltZ high low
-        (λ crossed. (Err (NoneAdmitted p q), inr (inr (inl (record {
-          askable = askable;
-          none = λ top a. let h = range top .0 a in omega (arith, ints);
-          compressed = p;
-          sets-least = s;
-          stretched = q;
-          sets-greatest = t;
-          says = record { number-is = refl; places-are = refl };
-        })))))
+        (λ crossed. (
+          Err (NoneAdmitted p q),
+          inr (inr (inl (record {
+            askable = askable;
+            none = λ top a. let h = range top .0 a in omega (arith, ints);
+            compressed = p;
+            sets-least = s;
+            stretched = q;
+            sets-greatest = t;
+            says = record { number-is = refl; places-are = refl };
+          }))),
+        ))
         (λ wide. by-ltZ load (force laws (f ∷ rest) curvature low)
-          (λ above. (Err (Crushed p), inr (inr (inr (inl (record {
+        (λ above. (
+          Err (Crushed p),
+          inr (inr (inr (inl (record {
             askable = askable;
             least = low;
             is-least = record { holds = range low .1 (omega (arith, ints), wide); first = λ y a. range y .0 a .0 };
@@ -163,18 +194,22 @@ module _ (laws : List Meaning) (lawful : All Lawful laws) (f : Fibre) (rest : Li
             place = p;
             sets-least = s;
             says = record { number-is = refl; places-are = refl };
-          }))))))
-          (λ below. by-ltZ (force laws (f ∷ rest) curvature high) load
-            (λ short. (Err (Parted q), inr (inr (inr (inr (record {
-              askable = askable;
-              greatest = high;
-              is-greatest = record { holds = range high .1 (wide, omega (arith, ints)); last = λ y a. range y .0 a .1 };
-              below = short;
-              place = q;
-              sets-greatest = t;
-              says = record { number-is = refl; places-are = refl };
-            }))))))
-            (answered wide below)))
+          })))),
+        ))
+        (λ below. by-ltZ (force laws (f ∷ rest) curvature high) load
+        (λ short. (
+          Err (Parted q),
+          inr (inr (inr (inr (record {
+            askable = askable;
+            greatest = high;
+            is-greatest = record { holds = range high .1 (wide, omega (arith, ints)); last = λ y a. range y .0 a .1 };
+            below = short;
+            place = q;
+            sets-greatest = t;
+            says = record { number-is = refl; places-are = refl };
+          })))),
+        ))
+        (answered wide below)))
 
   outcome-of : (o : Result Ends Refusal) × Asked laws (f ∷ rest) load depth curvature o
   outcome-of =
@@ -185,8 +220,10 @@ module _ (laws : List Meaning) (lawful : All Lawful laws) (f : Fibre) (rest : Li
 pub has-outcome : (laws : List Meaning) → All Lawful laws → (fibres : List Fibre) → All Ranged fibres → (load : ℤ) (depth curvature : ℕ)
     → (o : Result Ends Refusal) × Asked laws fibres load depth curvature o
 has-outcome laws lawful [] ranged load depth curvature = elim (cases-lt 65535 curvature) [
-    inl l ↦ (Err TooCurved, inl (l, record { number-is = refl; places-are = refl }))
-  | inr l ↦ (Err EmptySection, inr (inl (l, refl, record { number-is = refl; places-are = refl }))) ]
+  | inl l ↦ (Err TooCurved, inl (l, record { number-is = refl; places-are = refl }))
+  | inr l ↦ (Err EmptySection, inr (inl (l, refl, record { number-is = refl; places-are = refl })))
+]
 has-outcome laws lawful (f ∷ rest) ranged load depth curvature = elim (cases-lt 65535 curvature) [
-    inl l ↦ (Err TooCurved, inl (l, record { number-is = refl; places-are = refl }))
-  | inr l ↦ outcome-of laws lawful f rest ranged load depth curvature l ]
+  | inl l ↦ (Err TooCurved, inl (l, record { number-is = refl; places-are = refl }))
+  | inr l ↦ outcome-of laws lawful f rest ranged load depth curvature l
+]

@@ -64,7 +64,7 @@ module _ (laws : List Meaning) (lawful : All Lawful laws) (curvature : ℕ) (sma
   pull-rises : (x y : ℤ) → TopStrain x → TopStrain y → x ≤ℤ y → (f : Fibre) → Ranged f → pull laws curvature x f ≤ℤ pull laws curvature y f
   pull-rises x y tx ty h f r =
       scale-rises (f .area) _ _ (law-of-lawful laws lawful f .rises (strain curvature x f) (strain curvature y f)
-          (strain-fits curvature small x tx f r) (strain-fits curvature small y ty f r) (omega (arith, ints)))
+      (strain-fits curvature small x tx f r) (strain-fits curvature small y ty f r) (omega (arith, ints)))
 
   sum-rises : (x y : ℤ) → TopStrain x → TopStrain y → x ≤ℤ y → (fibres : List Fibre) → All Ranged fibres → (a b : ℤ) → a ≤ℤ b
       → folded (λ sum f. sum +ℤ pull laws curvature x f) a fibres ≤ℤ folded (λ sum f. sum +ℤ pull laws curvature y f) b fibres
@@ -114,7 +114,7 @@ module _ (laws : List Meaning) (lawful : All Lawful laws) (curvature : ℕ) (sma
   pub force-within : (fibres : List Fibre) → All Ranged fibres → Within (length fibres * 600000000000) (force laws fibres curvature top)
   force-within fibres ranged =
       let w = sum-within 600000000000 (pull laws curvature top) fibres (all-weaker Ranged _ pull-within fibres ranged) 0 (pos 0)
-          (omega (arith, ints), omega (arith, ints)) in
+      (omega (arith, ints), omega (arith, ints)) in
       (omega (arith, ints), omega (arith, ints))
 
   pub force-fits : (fibres : List Fibre) → All Ranged fibres → length fibres ≤ 512 → SFits w64 (force laws fibres curvature top)
@@ -123,7 +123,7 @@ module _ (laws : List Meaning) (lawful : All Lawful laws) (curvature : ℕ) (sma
   pub turns-within : (fibres : List Fibre) → All Ranged fibres → Within (length fibres * 2457600000000000) (turns laws fibres curvature top)
   turns-within fibres ranged =
       let w = sum-within 2457600000000000 (λ f. pull laws curvature top f *ℤ pos (f .depth)) fibres (all-weaker Ranged _ turn-within fibres ranged) 0 (pos 0)
-          (omega (arith, ints), omega (arith, ints)) in
+      (omega (arith, ints), omega (arith, ints)) in
       (omega (arith, ints), omega (arith, ints))
 
   pub turns-fit : (fibres : List Fibre) → All Ranged fibres → length fibres ≤ 512 → SFits w64 (turns laws fibres curvature top)

@@ -29,15 +29,17 @@ all-from-nth P (y ∷ ys) each = (each 0 y refl, all-from-nth P ys (λ i x e. ea
 
 pub sets-least-once : (laws : List Meaning) (fibres : List Fibre) (curvature p q : ℕ) → SetsLeast laws fibres curvature p → SetsLeast laws fibres curvature q → p ≡ q
 sets-least-once laws fibres curvature p q s t = elim (cases-order p q) [
-    inl e ↦ e
+  | inl e ↦ e
   | inr (inl l) ↦ let a = t .lowest p (s .fibre) l (s .stands) in let b = s .most q (t .fibre) (t .stands) in absurd (omega (arith, ints))
-  | inr (inr l) ↦ let a = s .lowest q (t .fibre) l (t .stands) in let b = t .most p (s .fibre) (s .stands) in absurd (omega (arith, ints)) ]
+  | inr (inr l) ↦ let a = s .lowest q (t .fibre) l (t .stands) in let b = t .most p (s .fibre) (s .stands) in absurd (omega (arith, ints))
+]
 
 pub sets-greatest-once : (laws : List Meaning) (fibres : List Fibre) (curvature p q : ℕ) → SetsGreatest laws fibres curvature p → SetsGreatest laws fibres curvature q → p ≡ q
 sets-greatest-once laws fibres curvature p q s t = elim (cases-order p q) [
-    inl e ↦ e
+  | inl e ↦ e
   | inr (inl l) ↦ let a = t .lowest p (s .fibre) l (s .stands) in let b = s .least q (t .fibre) (t .stands) in absurd (omega (arith, ints))
-  | inr (inr l) ↦ let a = s .lowest q (t .fibre) l (t .stands) in let b = t .least p (s .fibre) (s .stands) in absurd (omega (arith, ints)) ]
+  | inr (inr l) ↦ let a = s .lowest q (t .fibre) l (t .stands) in let b = t .least p (s .fibre) (s .stands) in absurd (omega (arith, ints))
+]
 
 -- from the least to the greatest top strain of a fibre
 abbrev pub Between : List Meaning → ℕ → ℤ → Fibre → Type 0
@@ -76,11 +78,12 @@ module _ (laws : List Meaning) (lawful : All Lawful laws) (fibres : List Fibre) 
 
   pub admitted-range : (p q : ℕ) (s : SetsLeast laws fibres curvature p) (t : SetsGreatest laws fibres curvature q) (top : ℤ)
       → Exactly (Admitted laws fibres curvature top) ((least-for laws curvature (s .fibre) ≤ℤ top) × (top ≤ℤ greatest-for laws curvature (t .fibre)))
-  admitted-range p q s t top =
-      (λ a. (admitted-at laws fibres curvature top a p (s .fibre) (s .stands) .0, admitted-at laws fibres curvature top a q (t .fibre) (t .stands) .1),
-       λ h. admitted-from laws fibres curvature top
-         (limits-in top (s .fibre) (t .fibre) (all-nth Ranged fibres ranged p (s .fibre) (s .stands)) (all-nth Ranged fibres ranged q (t .fibre) (t .stands)) (h .0) (h .1))
-         (λ i f e. let a = s .most i f e in let b = t .least i f e in (omega (arith, ints), omega (arith, ints))))
+  admitted-range p q s t top = (
+    λ a. (admitted-at laws fibres curvature top a p (s .fibre) (s .stands) .0, admitted-at laws fibres curvature top a q (t .fibre) (t .stands) .1),
+    λ h. admitted-from laws fibres curvature top
+        (limits-in top (s .fibre) (t .fibre) (all-nth Ranged fibres ranged p (s .fibre) (s .stands)) (all-nth Ranged fibres ranged q (t .fibre) (t .stands)) (h .0) (h .1))
+        (λ i f e. let a = s .most i f e in let b = t .least i f e in (omega (arith, ints), omega (arith, ints))),
+  )
 
   -- where any top strain is admitted, so are those at which the limits that set the range are met
   pub least-admitted : (p : ℕ) (s : SetsLeast laws fibres curvature p) (top : ℤ) → Admitted laws fibres curvature top
@@ -89,7 +92,7 @@ module _ (laws : List Meaning) (lawful : All Lawful laws) (fibres : List Fibre) 
       let r = all-nth Ranged fibres ranged p (s .fibre) (s .stands) in
       let b = admitted-at laws fibres curvature top a p (s .fibre) (s .stands) in
       admitted-from laws fibres curvature (least-for laws curvature (s .fibre)) (limits-in _ (s .fibre) (s .fibre) r r (omega (arith, ints)) (omega (arith, ints)))
-        (λ i f e. let c = s .most i f e in let d = admitted-at laws fibres curvature top a i f e in (c, omega (arith, ints)))
+      (λ i f e. let c = s .most i f e in let d = admitted-at laws fibres curvature top a i f e in (c, omega (arith, ints)))
 
   pub greatest-admitted : (p : ℕ) (s : SetsGreatest laws fibres curvature p) (top : ℤ) → Admitted laws fibres curvature top
       → Admitted laws fibres curvature (greatest-for laws curvature (s .fibre))
@@ -97,4 +100,4 @@ module _ (laws : List Meaning) (lawful : All Lawful laws) (fibres : List Fibre) 
       let r = all-nth Ranged fibres ranged p (s .fibre) (s .stands) in
       let b = admitted-at laws fibres curvature top a p (s .fibre) (s .stands) in
       admitted-from laws fibres curvature (greatest-for laws curvature (s .fibre)) (limits-in _ (s .fibre) (s .fibre) r r (omega (arith, ints)) (omega (arith, ints)))
-        (λ i f e. let c = s .least i f e in let d = admitted-at laws fibres curvature top a i f e in (omega (arith, ints), c))
+      (λ i f e. let c = s .least i f e in let d = admitted-at laws fibres curvature top a i f e in (omega (arith, ints), c))

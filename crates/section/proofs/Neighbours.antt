@@ -19,8 +19,8 @@ module _ (laws : List Meaning) (lawful : All Lawful laws) (fibres : List Fibre) 
   first-by-neighbour x y a h t next below = record {
     holds = (a, h);
     first = λ z k. by-ltZ z x
-      (λ l. let r = force-rises laws lawful curvature small fibres ranged z y (k .0 .0) t (omega (arith, ints)) in let m = k .1 in absurd (omega (arith, ints)))
-      (λ l. l);
+        (λ l. let r = force-rises laws lawful curvature small fibres ranged z y (k .0 .0) t (omega (arith, ints)) in let m = k .1 in absurd (omega (arith, ints)))
+        (λ l. l);
   }
 
   pub last-by-neighbour : (x y : ℤ) → Admitted laws fibres curvature x → force laws fibres curvature x ≤ℤ load
@@ -29,6 +29,6 @@ module _ (laws : List Meaning) (lawful : All Lawful laws) (fibres : List Fibre) 
   last-by-neighbour x y a h t next above = record {
     holds = (a, h);
     last = λ z k. by-ltZ x z
-      (λ l. let r = force-rises laws lawful curvature small fibres ranged y z t (k .0 .0) (omega (arith, ints)) in let m = k .1 in absurd (omega (arith, ints)))
-      (λ l. l);
+        (λ l. let r = force-rises laws lawful curvature small fibres ranged y z t (k .0 .0) (omega (arith, ints)) in let m = k .1 in absurd (omega (arith, ints)))
+        (λ l. l);
   }

@@ -83,7 +83,7 @@ module _ (laws : List Meaning) (lawful : All Lawful laws) (fibres : List Fibre) 
   unmet-once : Once Unmet
   unmet-once = either-once (NoneAdmitted laws fibres curvature) Unbalanced
       (λ r s c d. same-says r s 13 _ _ (c .says) (d .says) (ap₂ (λ p q. pos p ∷ pos q ∷ [])
-          (sets-least-once laws fibres curvature _ _ (c .sets-least) (d .sets-least)) (sets-greatest-once laws fibres curvature _ _ (c .sets-greatest) (d .sets-greatest))))
+      (sets-least-once laws fibres curvature _ _ (c .sets-least) (d .sets-least)) (sets-greatest-once laws fibres curvature _ _ (c .sets-greatest) (d .sets-greatest))))
       unbalanced-once
       (λ r s c d. let a = some-admitted s d in c .none (a .0) (a .1))
 

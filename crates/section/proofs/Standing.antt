@@ -64,21 +64,26 @@ module _ (laws : List Meaning) (lawful : All Lawful laws) (fibres : List Fibre) 
     ends-near : e .last <ℤ e .first → e .first ≡ e .last +ℤ pos 1
     ends-near h =
         let next : Admitted laws fibres curvature (e .last +ℤ pos 1) =
-            admitted-between laws fibres curvature (e .last) (e .last +ℤ pos 1) (e .first) last-in first-in (omega (arith, ints)) (omega (arith, ints)) in
+        admitted-between laws fibres curvature (e .last) (e .last +ℤ pos 1) (e .first) last-in first-in (omega (arith, ints)) (omega (arith, ints)) in
         by-ltZ load (force laws fibres curvature (e .last +ℤ pos 1))
-          (λ above. let k = asked .1 .first-end .first (e .last +ℤ pos 1) (next, omega (arith, ints)) in omega (arith, ints))
-          (λ below. let k = asked .1 .last-end .last (e .last +ℤ pos 1) (next, below) in absurd (omega (arith, ints)))
+        (λ above. let k = asked .1 .first-end .first (e .last +ℤ pos 1) (next, omega (arith, ints)) in omega (arith, ints))
+        (λ below. let k = asked .1 .last-end .last (e .last +ℤ pos 1) (next, below) in absurd (omega (arith, ints)))
 
     ends-meet : Exactly (e .first ≡ e .last) (Only (Balances laws fibres load curvature))
-    ends-meet =
-        (λ h. (e .first, first-balances (e .last) (last-in .0) last-enough (omega (arith, ints)), λ y b.
-            let k = balances-from y b in let l = balances-to y b in omega (arith, ints)),
-         λ o.
-            let b = o .1 in
-            let k = o .1 .1 in
-            let x = o .2 (e .first) (first-balances (o .0) (b .0 .0) (omega (arith, ints)) (balances-from (o .0) b)) in
-            let y = o .2 (e .last) (last-balances (o .0) (b .0 .0) (omega (arith, ints)) (balances-to (o .0) b)) in
-            omega (arith, ints))
+    ends-meet = (
+      λ h. (
+        e .first,
+        first-balances (e .last) (last-in .0) last-enough (omega (arith, ints)),
+        λ y b.
+            let k = balances-from y b in let l = balances-to y b in omega (arith, ints),
+      ),
+      λ o.
+          let b = o .1 in
+          let k = o .1 .1 in
+          let x = o .2 (e .first) (first-balances (o .0) (b .0 .0) (omega (arith, ints)) (balances-from (o .0) b)) in
+          let y = o .2 (e .last) (last-balances (o .0) (b .0 .0) (omega (arith, ints)) (balances-to (o .0) b)) in
+          omega (arith, ints),
+    )
 
     ends-part : ((top : ℤ) → Balances laws fibres load curvature top → ⊥) → e .first ≡ e .last +ℤ pos 1
     ends-part none = by-ltZ (e .last) (e .first) ends-near (λ h. absurd (none (e .first) (first-balances (e .last) (last-in .0) last-enough h)))
@@ -90,9 +95,9 @@ module _ (laws : List Meaning) (lawful : All Lawful laws) (fibres : List Fibre) 
     ends-enclose = by-ltZ (e .last) (e .first)
         (λ h. record { lower = e .last; upper = e .first; near = inr (ends-near h); lower-in = last-in; upper-in = first-in; below = last-enough; above = first-enough })
         (λ h.
-          let b = first-balances (e .last) (last-in .0) last-enough h in
-          let k = b .1 in
-          record { lower = e .first; upper = e .first; near = inl refl; lower-in = first-in; upper-in = first-in; below = omega (arith, ints); above = first-enough })
+        let b = first-balances (e .last) (last-in .0) last-enough h in
+        let k = b .1 in
+        record { lower = e .first; upper = e .first; near = inl refl; lower-in = first-in; upper-in = first-in; below = omega (arith, ints); above = first-enough })
 
   refused-open : (r : Refusal) → Askable fibres curvature → Asked laws fibres load depth curvature (Err r) → Enclosing laws fibres load curvature → ⊥
   refused-open r askable (inl c) n = let h = c .0 in let k = askable .0 in omega arith

@@ -53,7 +53,7 @@ Alone laws fibres load depth curvature =
 abbrev pub Apart : List Meaning → List Fibre → ℤ → ℕ → ℕ → Type 0
 Apart laws fibres load depth curvature = (e : Ends) → Asked laws fibres load depth curvature (Ok e)
     → (((top : ℤ) → Balances laws fibres load curvature top → ⊥) → e .first ≡ e .last +ℤ pos 1)
-      × ((top : ℤ) → Balances laws fibres load curvature top → e .first ≤ℤ e .last)
+    × ((top : ℤ) → Balances laws fibres load curvature top → e .first ≤ℤ e .last)
 
 -- two admitted top strains, equal or one apart, whose forces enclose the load
 pub record Enclosing (laws : List Meaning) (fibres : List Fibre) (load : ℤ) (curvature : ℕ) : Type 0 where

@@ -36,15 +36,17 @@ module _ (load : ℤ) (curvature : ℕ) (first last m n : ℤ) where
       → force (material ∷ []) layers curvature last ≤ℤ load → load <ℤ force (material ∷ []) layers curvature (last +ℤ pos 1)
       → m ≡ moment (material ∷ []) layers load 0 curvature first → n ≡ moment (material ∷ []) layers load 0 curvature last
       → Answers load curvature first last m n
-  answers small fl fh ll lh enough short within past fm lm =
-      ((small, λ e. let z : _≡_ {A = ℕ} 0 1 = cc in omega arith), record {
-        first-end = first-by-neighbour (material ∷ []) lawful layers ranged load curvature small first (first -ℤ pos 1)
-            (admitted curvature first fl fh) enough (omega (arith, ints), omega (arith, ints)) (omega (arith, ints)) short;
-        last-end = last-by-neighbour (material ∷ []) lawful layers ranged load curvature small last (last +ℤ pos 1)
-            (admitted curvature last ll lh) within (omega (arith, ints), omega (arith, ints)) (omega (arith, ints)) past;
-        first-moment-is = fm;
-        last-moment-is = lm;
-      })
+  answers small fl fh ll lh enough short within past fm lm = (
+    (small, λ e. let z : _≡_ {A = ℕ} 0 1 = cc in omega arith),
+    record {
+      first-end = first-by-neighbour (material ∷ []) lawful layers ranged load curvature small first (first -ℤ pos 1)
+          (admitted curvature first fl fh) enough (omega (arith, ints), omega (arith, ints)) (omega (arith, ints)) short;
+      last-end = last-by-neighbour (material ∷ []) lawful layers ranged load curvature small last (last +ℤ pos 1)
+          (admitted curvature last ll lh) within (omega (arith, ints), omega (arith, ints)) (omega (arith, ints)) past;
+      first-moment-is = fm;
+      last-moment-is = lm;
+    },
+  )
 
 pub returns : need.returns
 unfolding elastic two-line
