@@ -1,0 +1,7 @@
+pub mod Force
+pub mod Limits
+pub mod Outcome
+pub mod Finding
+pub mod Causes
+pub mod Standing
+pub mod Neighbours

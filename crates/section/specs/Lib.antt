@@ -1,0 +1,4 @@
+pub mod Fibres
+pub mod Asked
+pub mod Truths
+pub mod Worked

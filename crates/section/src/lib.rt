@@ -1,0 +1,5 @@
+// A section of fibres, and what it answers at a curvature.
+pub mod ends;
+pub mod fibre;
+pub mod truths;
+pub mod worked;
