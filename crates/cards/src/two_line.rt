@@ -13,9 +13,9 @@ pub struct Plateaus {
 // A straight line through zero with the slope of the modulus, cut off at a plateau on each side; psi and nano.
 #[derive(Clone, Copy)]
 pub struct TwoLine {
-    pub(crate) modulus: u32,
-    pub(crate) plateaus: Plateaus,
-    pub(crate) limits: Limits,
+    modulus: u32,
+    plateaus: Plateaus,
+    limits: Limits,
     ghost modulus_in: { (100000 ≤ modulus) × (modulus ≤ 40000000) },
     ghost compression_in: { plateaus .compression ≤ 300000 },
     ghost tension_in: { plateaus .tension ≤ 300000 },
@@ -26,3 +26,4 @@ pub struct TwoLine {
 pub mod display;
 pub mod law;
 pub mod parts;
+pub(crate) mod reduction;

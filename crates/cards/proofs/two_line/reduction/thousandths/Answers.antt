@@ -2,7 +2,7 @@ use mathlib.Core.Path.{refl}
 use Prim.Native.Nat.{_*_, _≤_}
 use native.Mathlib.Nat.{mul-le-mul-right}
 use native.Mathlib.Omega.{arith}
-use Rattle.cards.proofs.reduce.thousandths.Needs as need
+use Rattle.cards.proofs.two_line.reduction.thousandths.Needs as need
 
 pub cast-result-3 : need.cast-result-3
 cast-result-3 c =
