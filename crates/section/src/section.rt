@@ -9,6 +9,8 @@ use crate::fibre::Fibre;
 
 pub mod calls;
 mod figures;
+#[cfg(test)]
+mod tests;
 
 // The kit, and the fibres by position from 0, in memory that is reserved for all that it may hold.
 #[derive(Drop)]
