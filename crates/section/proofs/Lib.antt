@@ -5,3 +5,5 @@ pub mod Finding
 pub mod Causes
 pub mod Standing
 pub mod Neighbours
+pub mod Ranges
+pub mod Materials
