@@ -1,4 +1,5 @@
-pub mod Force
+pub mod Bounds
+pub mod Summing
 pub mod Limits
 pub mod Outcome
 pub mod Finding

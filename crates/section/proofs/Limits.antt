@@ -16,7 +16,7 @@ use Rattle.section.specs.Fibres.{law-of, strain, Ranged, TopStrain, Inside, Ad
 use Rattle.section.specs.Asked.{least-for, greatest-for, SetsLeast, SetsGreatest}
 use Rattle.section.specs.Truths.{Exactly}
 use Rattle.section.specs.declared.fibre.Fibre.{Fibre}
-use Rattle.section.proofs.Force.{law-of-lawful, turned-most}
+use Rattle.section.specs.ForceRises.{law-of-lawful, turned-most}
 
 pub all-nth : {X : Type 0} (P : X → Type 0) (xs : List X) → All P xs → (i : ℕ) (x : X) → nth xs i ≡ Some x → P x
 all-nth P [] all i x e = let z : _≡_ {A = ℕ} 0 1 = cc in absurd (omega arith)

@@ -1,4 +1,6 @@
 pub mod Fibres
+pub mod Ranges
+pub mod ForceRises
 pub mod Asked
 pub mod Truths
 pub mod Worked

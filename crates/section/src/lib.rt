@@ -1,5 +1,6 @@
 // A section of fibres, and what it answers at a curvature.
 pub mod ends;
 pub mod fibre;
+mod force;
 pub mod truths;
 pub mod worked;
