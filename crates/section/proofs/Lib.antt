@@ -1,7 +1,9 @@
 pub mod Bounds
 pub mod Summing
+pub mod Highest
 pub mod Limits
 pub mod Outcome
+pub mod Grounds
 pub mod Finding
 pub mod Causes
 pub mod Standing

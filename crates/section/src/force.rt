@@ -37,16 +37,16 @@ fn pull<K: Kit>(kit: &K, curvature: u32, top: i32, fibre: &Fibre) -> i64
 
 // The force of the fibres at a curvature, as a quantity over the top strains.
 #[derive(Drop)]
-pub(crate) struct ForceAt<'a, K> {
-    kit: &'a K,
-    fibres: &'a [Fibre],
-    curvature: u32,
+pub(crate) struct ForceAt<'k, 'f, K> {
+    pub(crate) kit: &'k K,
+    pub(crate) fibres: &'f [Fibre],
+    pub(crate) curvature: u32,
     ghost gentle: { curvature ≤ 65535 },
     ghost ranged: { T (all-ranged (now fibres)) },
     ghost few: { length (now fibres) ≤ 512 },
 }
 
-pub(crate) impl<'a, K: Kit> NeverFalls for ForceAt<'a, K> as ForceNeverFalls {
+pub(crate) impl<'k, 'f, K: Kit> NeverFalls for ForceAt<'k, 'f, K> as ForceNeverFalls {
     ghost covers = { λ q x. TopStrain x };
 
     ghost value = { λ q x. force-of (K·Kit .laws (now (q .kit))) (now (q .fibres)) (q .curvature) x };

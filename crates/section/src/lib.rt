@@ -2,5 +2,6 @@
 pub mod ends;
 pub mod fibre;
 mod force;
+mod range;
 pub mod truths;
 pub mod worked;
