@@ -8,3 +8,4 @@ pub mod Finding
 pub mod Causes
 pub mod Standing
 pub mod Neighbours
+pub mod Asking

@@ -1,4 +1,5 @@
 // A section of fibres, and what it answers at a curvature.
+pub mod ask;
 pub mod ends;
 pub mod fibre;
 mod force;
