@@ -16,7 +16,7 @@ use Rattle.section.specs.Fibres.{force, Ranged, TopStrain}
 use Rattle.section.specs.Asked.{least-for, greatest-for, NoneAdmitted, Crushed, Parted, Barred, Asked}
 use Rattle.section.specs.Truths.{Crushes, Parts, Stands, Causes}
 use Rattle.section.specs.declared.fibre.Fibre.{Fibre}
-use Rattle.section.proofs.Force.{force-rises}
+use Rattle.section.specs.ForceRises.{force-rises}
 use Rattle.section.proofs.Limits.{admitted-range, least-admitted, greatest-admitted}
 use Rattle.section.proofs.Outcome.{crushed-above, parted-below}
 

@@ -22,6 +22,7 @@ use Rattle.section.specs.Truths.{Exactly}
 use Rattle.section.specs.declared.fibre.Fibre.{Fibre}
 use Rattle.section.specs.declared.ends.Ends.{Ends}
 use Rattle.section.proofs.Limits.{admitted-range}
+use Rattle.section.proofs.Grounds.{none-admitted, crushed, parted, balanced}
 
 -- the lowest position among the items of the highest value
 record Highest {X : Type 0} (value : X → ℤ) (xs : List X) (p : ℕ) : Type 0 where
@@ -147,9 +148,14 @@ module _ (laws : List Meaning) (lawful : All Lawful laws) (f : Fibre) (rest : Li
 
   module _ (p q : ℕ) (s : SetsLeast laws (f ∷ rest) curvature p) (t : SetsGreatest laws (f ∷ rest) curvature q) (low high : ℤ)
       (range : (top : ℤ) → Exactly (Admitted laws (f ∷ rest) curvature top) ((low ≤ℤ top) × (top ≤ℤ high))) where
-    answered : low ≤ℤ high → force laws (f ∷ rest) curvature low ≤ℤ load → load ≤ℤ force laws (f ∷ rest) curvature high
-        → (o : Result Ends Refusal) × Asked laws (f ∷ rest) load depth curvature o
-    answered wide below above =
+    outcome-in : (o : Result Ends Refusal) × Asked laws (f ∷ rest) load depth curvature o
+    outcome-in = by-ltZ high low
+        (λ crossed. (Err (NoneAdmitted p q), none-admitted laws (f ∷ rest) load depth curvature askable p q s t low high range crossed))
+        (λ wide. by-ltZ load (force laws (f ∷ rest) curvature low)
+        (λ above. (Err (Crushed p), crushed laws (f ∷ rest) load depth curvature askable p q s t low high range wide above))
+        (λ below. by-ltZ (force laws (f ∷ rest) curvature high) load
+        (λ short. (Err (Parted q), parted laws (f ∷ rest) load depth curvature askable p q s t low high range wide short))
+        (λ above.
         let x = first-between (force laws (f ∷ rest) curvature) load low high wide above in
         let y = last-between (force laws (f ∷ rest) curvature) load low high wide below in (
           Ok (record {
@@ -158,58 +164,10 @@ module _ (laws : List Meaning) (lawful : All Lawful laws) (f : Fibre) (rest : Li
             «first_moment» = moment laws (f ∷ rest) load depth curvature (x .0);
             «last_moment» = moment laws (f ∷ rest) load depth curvature (y .0);
           }),
-          (
-            askable,
-            record {
-              first-end = record { holds = (range (x .0) .1 (x .1, x .2), x .3); first = λ z h. x .4 z (range z .0 (h .0) .0) (h .1) };
-              last-end = record { holds = (range (y .0) .1 (y .1, y .2), y .3); last = λ z h. y .4 z (range z .0 (h .0) .1) (h .1) };
-              first-moment-is = refl;
-              last-moment-is = refl;
-            },
-          ),
-        )
-
-    outcome-in : (o : Result Ends Refusal) × Asked laws (f ∷ rest) load depth curvature o
-    outcome-in = by-ltZ high low
-        (λ crossed. (
-          Err (NoneAdmitted p q),
-          inr (inr (inl (record {
-            askable = askable;
-            none = λ top a. let h = range top .0 a in omega (arith, ints);
-            compressed = p;
-            sets-least = s;
-            stretched = q;
-            sets-greatest = t;
-            says = record { number-is = refl; places-are = refl };
-          }))),
-        ))
-        (λ wide. by-ltZ load (force laws (f ∷ rest) curvature low)
-        (λ above. (
-          Err (Crushed p),
-          inr (inr (inr (inl (record {
-            askable = askable;
-            least = low;
-            is-least = record { holds = range low .1 (omega (arith, ints), wide); first = λ y a. range y .0 a .0 };
-            above = above;
-            place = p;
-            sets-least = s;
-            says = record { number-is = refl; places-are = refl };
-          })))),
-        ))
-        (λ below. by-ltZ (force laws (f ∷ rest) curvature high) load
-        (λ short. (
-          Err (Parted q),
-          inr (inr (inr (inr (record {
-            askable = askable;
-            greatest = high;
-            is-greatest = record { holds = range high .1 (wide, omega (arith, ints)); last = λ y a. range y .0 a .1 };
-            below = short;
-            place = q;
-            sets-greatest = t;
-            says = record { number-is = refl; places-are = refl };
-          })))),
-        ))
-        (answered wide below)))
+          balanced laws (f ∷ rest) load depth curvature askable p q s t low high range _
+              (record { from = x .1; to = x .2; holds = x .3; first = λ z a b h. x .4 z a h })
+              (record { from = y .1; to = y .2; holds = y .3; last = λ z a b h. y .4 z b h }) refl refl,
+        ))))
 
   outcome-of : (o : Result Ends Refusal) × Asked laws (f ∷ rest) load depth curvature o
   outcome-of =

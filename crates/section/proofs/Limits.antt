@@ -6,17 +6,25 @@ use mathlib.Core.List.{List, [], _∷_}
 use mathlib.Core.Logic.{inl, inr}
 use mathlib.Core.Path.{_≡_, refl, subst}
 use native.Mathlib.Omega.{arith}
-use Rattle.std.specs.declared.option.Option.the-variants.{Some}
+use Rattle.std.specs.Options.{valueOr, mapped}
+use Rattle.std.specs.declared.option.Option.{Option}
+use Rattle.std.specs.declared.option.Option.the-variants.{Some, None}
 use Rattle.std.specs.shelf.Lists.{All}
 use Rattle.std.specs.shelf.Maps.{nth}
 use Rattle.std.proofs.shelf.Signed.{ints}
 use Rattle.std.proofs.shelf.Tests.{cases-order}
 use Rattle.laws.specs.Meaning.{Meaning, Lawful}
-use Rattle.section.specs.Fibres.{law-of, strain, Ranged, TopStrain, Inside, Admitted}
+use Rattle.kits.specs.Kits.{limits-of}
+use Rattle.section.specs.Fibres.{law-or-none, law-of, strain, Ranged, TopStrain, Inside, Admitted}
 use Rattle.section.specs.Asked.{least-for, greatest-for, SetsLeast, SetsGreatest}
 use Rattle.section.specs.Truths.{Exactly}
 use Rattle.section.specs.declared.fibre.Fibre.{Fibre}
-use Rattle.section.proofs.Force.{law-of-lawful, turned-most}
+use Rattle.section.specs.ForceRises.{law-of-lawful, turned-most}
+
+-- the limits that a kit answers, or 1 and 1, are those of the fibre's law
+pub limits-are : (o : Option Meaning) → valueOr (mapped limits-of o) (record { compression = 1; tension = 1 }) ≡ limits-of (law-or-none o)
+limits-are None = refl
+limits-are (Some law) = refl
 
 pub all-nth : {X : Type 0} (P : X → Type 0) (xs : List X) → All P xs → (i : ℕ) (x : X) → nth xs i ≡ Some x → P x
 all-nth P [] all i x e = let z : _≡_ {A = ℕ} 0 1 = cc in absurd (omega arith)

@@ -10,7 +10,7 @@ use Rattle.laws.specs.Meaning.{Meaning, Lawful}
 use Rattle.section.specs.Fibres.{force, Ranged, TopStrain, Admitted}
 use Rattle.section.specs.Asked.{Least, Greatest}
 use Rattle.section.specs.declared.fibre.Fibre.{Fibre}
-use Rattle.section.proofs.Force.{force-rises}
+use Rattle.section.specs.ForceRises.{force-rises}
 
 module _ (laws : List Meaning) (lawful : All Lawful laws) (fibres : List Fibre) (ranged : All Ranged fibres) (load : ℤ) (curvature : ℕ) (small : curvature ≤ 65535) where
   pub first-by-neighbour : (x y : ℤ) → Admitted laws fibres curvature x → load ≤ℤ force laws fibres curvature x

@@ -18,7 +18,7 @@ use Rattle.section.specs.Fibres.{force, Ranged, Admitted}
 use Rattle.section.specs.Asked.{Least, Greatest, Balanced, Askable, TooCurved, Bare, NoneAdmitted, Crushed, Parted, Barred, Asked}
 use Rattle.section.specs.declared.fibre.Fibre.{Fibre}
 use Rattle.section.specs.declared.ends.Ends.{Ends}
-use Rattle.section.proofs.Force.{force-rises}
+use Rattle.section.specs.ForceRises.{force-rises}
 use Rattle.section.proofs.Limits.{sets-least-once, sets-greatest-once}
 
 pub least-once : (P : ℤ → Type 0) (x y : ℤ) → Least P x → Least P y → x ≡ y

@@ -1,4 +1,4 @@
--- What the test that every fibre of a section passes tells, and how it is kept.
+-- How the test that every fibre of a section passes is kept.
 use mathlib.Core.Path.{_≡_, refl, sym, subst}
 use mathlib.Core.Bool.{Bool, true, false, _&&_}
 use mathlib.Core.List.{List, [], _∷_, _++_}
@@ -6,16 +6,15 @@ use Prim.Native.Nat.{ℕ, suc, _≤_}
 use native.Mathlib.Omega.{arith}
 use mir.Syntax.{w32, w64}
 use mir.Val.{SFits, toZ, ofZ}
-use lib.Dec.{T, leb→le, le→leb}
+use lib.Dec.{T, le→leb}
 use lib.Ieee.Fits.{and-l, and-r}
 use lib.IntN.{ℤ, pos, negℤ, natAbs}
 use lib.ListN.{take, drop}
 use lib.Signed.{leZ, leZ-yes, _≤ℤ_}
 use Rattle.std.specs.shelf.Lists.{All, removed}
-use Rattle.std.proofs.shelf.Elements.{all-push, all-append, all-take, all-drop, all-weaker}
+use Rattle.std.proofs.shelf.Elements.{all-push, all-append, all-take, all-drop}
 use Rattle.std.proofs.shelf.Signed.{ints, toZ-ofZ}
 use Rattle.section.specs.declared.fibre.Fibre.{Fibre}
-use Rattle.section.specs.Fibres.{Ranged}
 use Rattle.section.specs.Ranges.{ranged, all-ranged}
 use Rattle.section.specs.Calls.{Within, fibre-figures, fibre-of}
 
@@ -24,19 +23,6 @@ both true b x y = y
 both false b x y = absurd x
 
 -- ---- the test of one fibre
-
-pub fibre-ranged : (f : Fibre) → T (ranged f) → Ranged f
-fibre-ranged f h =
-    let a = and-l _ _ h in
-    let b = and-l _ _ a in
-    let c = and-l _ _ b in
-    record {
-      depth-most = leb→le _ _ (and-l _ _ c);
-      area-least = leb→le _ _ (and-r _ _ c);
-      area-most = leb→le _ _ (and-r _ _ b);
-      initial-least = leZ-yes (and-r _ _ a);
-      initial-most = leZ-yes (and-r _ _ h);
-    }
 
 module _ (least written most : ℤ) (in-range : Within (record { least = least; written = written; most = most })) where
   not-below : least ≤ℤ written
@@ -56,10 +42,7 @@ module _ (depth area material initial : ℤ) (figures-in : All Within (fibre-fig
       let depth-most : natAbs depth ≤ 4096 = omega (arith, ints) in
       let area-least : 1 ≤ natAbs area = omega (arith, ints) in
       let area-most : natAbs area ≤ 2000000 = omega (arith, ints) in
-      let least = leZ (negℤ (pos 100000000)) initial in
-      let most = leZ initial (pos 100000000) in
-      let three = both _ _ (both _ _ (le→leb _ _ depth-most) (le→leb _ _ area-least)) (le→leb _ _ area-most) in
-      both _ most (both _ least three (and-l least most (figures-in .1 .1 .0))) (and-r least most (figures-in .1 .1 .0))
+      both _ _ (both _ _ (le→leb _ _ depth-most) (both _ _ (le→leb _ _ area-least) (le→leb _ _ area-most))) (figures-in .1 .1 .0)
 
   -- the casts of such figures change none of them
   pub fibre-cast : (number : ℕ) → SFits w64 depth → SFits w64 area → SFits w64 initial → number ≡ natAbs material
@@ -79,9 +62,6 @@ tested (f ∷ fibres) h = (and-l (ranged f) _ h, tested fibres (and-r (ranged f)
 tests : (fibres : List Fibre) → All (λ f. T (ranged f)) fibres → T (all-ranged fibres)
 tests [] h = tt
 tests (f ∷ fibres) h = both (ranged f) _ (h .0) (tests fibres (h .1))
-
-pub fibres-ranged : (fibres : List Fibre) → T (all-ranged fibres) → All Ranged fibres
-fibres-ranged fibres h = all-weaker _ _ fibre-ranged fibres (tested fibres h)
 
 pub ranged-put : (before after : List Fibre) (f : Fibre) → after ≡ before ++ f ∷ [] → T (all-ranged before) → T (ranged f) → T (all-ranged after)
 ranged-put before after f is h k = let Kept : List Fibre → Type 0 = λ fibres. T (all-ranged fibres) in subst Kept (sym is) (tests _ (all-push _ before f (tested before h) k))

@@ -17,7 +17,7 @@ use Rattle.section.specs.Asked.{Askable, Asked}
 use Rattle.section.specs.Truths.{Exactly, Only, Balances, Enclosing, TruthsOf}
 use Rattle.section.specs.declared.fibre.Fibre.{Fibre}
 use Rattle.section.specs.declared.ends.Ends.{Ends}
-use Rattle.section.proofs.Force.{force-rises}
+use Rattle.section.specs.ForceRises.{force-rises}
 use Rattle.section.proofs.Limits.{admitted-between, admitted-range}
 use Rattle.section.proofs.Outcome.{crushed-above, parted-below, one-outcome}
 use Rattle.section.proofs.Finding.{has-outcome}

@@ -18,6 +18,9 @@ use Rattle.refusal.specs.declared.Refusal.{Refusal}
 use Rattle.laws.specs.Meaning.{Meaning}
 use Rattle.kits.specs.Kits.{numbered}
 use Rattle.kits.specs.Reach.{NumberRefused}
+use Rattle.section.specs.Asked.{Asked}
+use Rattle.section.specs.Truths.{TruthsOf}
+use Rattle.section.specs.declared.ends.Ends.{Ends}
 use Rattle.section.specs.declared.fibre.Fibre.{Fibre}
 
 -- the fibres by position, the load and its depth
@@ -140,3 +143,11 @@ pub record Loaded (before : Book) (load depth : ℤ) (after : Book) : Type 0 whe
 abbrev pub Loads : Book → ℤ → ℤ → Result (Unit {0}) Refusal → Book → Type 0
 Loads before load depth answer after =
     Cases answer (λ _. Loaded before load depth after) (λ refusal. FigureRefused 10 (load-figures load depth) refusal × (after ≡ before))
+
+-- what an ask at a curvature comes to, by the book
+abbrev pub AskedOf : List Meaning → Book → ℕ → Result Ends Refusal → Type 0
+AskedOf laws book curvature answer = Asked laws (book .fibres) (book .load) (book .depth) curvature answer
+
+-- and what every such ask is true to
+abbrev pub TruthsOfBook : List Meaning → Book → ℕ → Type 0
+TruthsOfBook laws book curvature = TruthsOf laws (book .fibres) (book .load) (book .depth) curvature

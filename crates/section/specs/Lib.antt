@@ -1,6 +1,8 @@
 pub mod Fibres
 pub mod Ranges
+pub mod ForceRises
 pub mod Asked
+pub mod Range
 pub mod Truths
 pub mod Worked
 pub mod Calls

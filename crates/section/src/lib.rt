@@ -1,6 +1,9 @@
 // A section of fibres, and what it answers at a curvature.
+pub mod ask;
 pub mod ends;
 pub mod fibre;
+mod force;
+mod range;
 pub mod section;
 pub mod truths;
 pub mod worked;

@@ -2,13 +2,15 @@
 ghost use mathlib.Core.Path.{_≡_};
 ghost use denote.Ref.{now};
 ghost use Rattle.std.specs.Vec.{made};
-ghost use Rattle.section.specs.Calls.{first-book, Put, Take, Loads};
+ghost use Rattle.section.specs.Calls.{first-book, Put, Take, Loads, AskedOf, TruthsOfBook};
 ghost use Rattle.section.specs.Books.{book-of};
 use super::Load;
 use super::Row;
 use super::Section;
 use super::figures::check_fibre;
 use super::figures::check_load;
+use crate::ask::ask;
+use crate::ends::Ends;
 use crate::fibre::Fibre;
 use kits::kit::Kit;
 use refusal::Refusal;
@@ -87,5 +89,13 @@ impl<K: Kit> Section<K> {
             depth: depth as u32,
         };
         Ok(())
+    }
+
+    // The ends of the top strains that balance the load at a curvature, or the first ground that bars them; it alters nothing.
+    pub fn ask(&self, curvature: u32) -> Result<Ends, Refusal>
+        ensures asked { λ r. ⌜ AskedOf (K·Kit .laws (now (self .entry) .row .kit)) (book-of (now (self .entry))) curvature r ⌝ }
+        ensures truths { λ _. ⌜ TruthsOfBook (K·Kit .laws (now (self .entry) .row .kit)) (book-of (now (self .entry))) curvature ⌝ }
+    {
+        ask(&self.row.kit, &self.row.fibres, self.load.force, self.load.depth, curvature)
     }
 }
