@@ -4,5 +4,7 @@ pub mod ends;
 pub mod fibre;
 mod force;
 mod range;
+#[cfg(test)]
+mod tests;
 pub mod truths;
 pub mod worked;
