@@ -85,7 +85,7 @@ module _ (value : Fibre → ℤ) (each : (f : Fibre) → Ranged f → Within 245
       let b = each (getD fibres i d) (item-ranged fibres ranged i d inside) in
       record {
         is = ap (λ s. s +ℤ v) (known .is) ∙ ap (λ e. folded (λ sum f. sum +ℤ value f) (pos 0) (take i fibres) +ℤ e) v-is
-          ∙ sym (folded-more (λ sum f. sum +ℤ value f) (pos 0) fibres i d inside);
+            ∙ sym (folded-more (λ sum f. sum +ℤ value f) (pos 0) fibres i d inside);
         within = (omega (arith, ints), omega (arith, ints));
       }
 

@@ -16,7 +16,7 @@ use refusal::Refusal;
 use search::greatest;
 use search::least;
 
-// In sixteenths of an inch and nano: the strain that is gained with each sixteenth of depth.
+// In nano for each sixteenth of an inch of depth.
 pub const MOST_CURVATURE: u32 = 65535;
 
 // The ends of the top strains that balance the load, or the first ground that bars them. Each search asks for at most 33 forces.

@@ -29,8 +29,7 @@ fn pull<K: Kit>(kit: &K, curvature: u32, top: i32, fibre: &Fibre) -> i64
     requires ranged { ⌜ Ranged (now fibre) ⌝ }
     ensures { λ r. ⌜ r ≡ pull-of (laws (now (kit .entry))) curvature top (now (fibre .entry)) ⌝ }
 {
-    let stress = kit
-        .stress(fibre.material as usize, strain(curvature, top, fibre))
+    let stress = kit.stress(fibre.material as usize, strain(curvature, top, fibre))
         .unwrap_or(0);
     fibre.area as i64 * stress as i64
 }

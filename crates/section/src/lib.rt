@@ -7,3 +7,6 @@ mod range;
 pub mod section;
 pub mod truths;
 pub mod worked;
+
+#[cfg(test)]
+mod tests;

@@ -1,7 +1,7 @@
 use lib.IntN.{pos, _-ℤ_, _*ℤ_}
 use mathlib.Core.List.{List}
 use mathlib.Core.Path.{ap, _∙_}
-use mir.Val.{SFits, toZ, ofZ}
+use mir.Val.{SFits}
 use mir.Syntax.{w64}
 use lib.Seq.{take-all}
 use borrow.Author.Needs.{sfits-of}
@@ -58,5 +58,5 @@ returns g c =
     let k = simp toZ-ofZ at (c .loop-fibre .inv) in
     let rest = rest-fits _ _ (c .pre .few) _ _ k (c .loop-fibre .kept .fibre-index-end) (c .args .load) (c .args .load-depth) (c .pre .loaded) in
     toZ-ofZ w64 _ rest ∙ rest-is _ _ (c .pre .few) _ _ k (c .loop-fibre .kept .fibre-index-end) (c .args .load) (c .args .load-depth) (c .pre .loaded)
-      ∙ ap (λ z. z -ℤ c .args .load *ℤ pos (c .args .load-depth)) (k .is)
-      ∙ ap (λ (fs : List Fibre). moment (g .K·Kit .laws (c .args .kit .now)) fs (c .args .load) (c .args .load-depth) (c .args .curvature) (c .args .top)) (take-all _ _ (c .loop-fibre-test .left))
+    ∙ ap (λ z. z -ℤ c .args .load *ℤ pos (c .args .load-depth)) (k .is)
+    ∙ ap (λ (fs : List Fibre). moment (g .K·Kit .laws (c .args .kit .now)) fs (c .args .load) (c .args .load-depth) (c .args .curvature) (c .args .top)) (take-all _ _ (c .loop-fibre-test .left))

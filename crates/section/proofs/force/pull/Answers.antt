@@ -5,7 +5,7 @@ use mir.Syntax.{w32, w64}
 use borrow.Author.Needs.{sfits-of}
 use native.Mathlib.Omega.{arith}
 use Rattle.std.specs.Options.{valueOr}
-use Rattle.std.proofs.shelf.Signed.{ints, toZ-ofZ}
+use Rattle.std.proofs.shelf.Signed.{toZ-ofZ}
 use Rattle.laws.proofs.Whole.{scale-fits}
 use Rattle.kits.specs.Kits.{reached}
 use Rattle.section.specs.Fibres.{law-of, strain}
@@ -32,5 +32,5 @@ returns g c =
     let q = simp toZ-ofZ at (c .strain .ensures) in
     let laws = g .K·Kit .laws (c .args .kit .now) in
     let e : z ≡ law-of laws f .stress (strain (c .args .curvature) (c .args .top) f) =
-      c .unwrap-or-stress .ensures ∙ ap (λ o. valueOr o (pos 0)) k ∙ stress-is (reached laws (f .material)) _ ∙ ap (law-of laws f .stress) q in
+    c .unwrap-or-stress .ensures ∙ ap (λ o. valueOr o (pos 0)) k ∙ stress-is (reached laws (f .material)) _ ∙ ap (law-of laws f .stress) q in
     ap (λ y. toZ w64 (ofZ w64 y)) (product-is-whole (f .area) z (r .area-most) s) ∙ toZ-ofZ w64 _ (scale-fits (f .area) z (omega arith) s) ∙ ap (λ y. pos (f .area) *ℤ y) e

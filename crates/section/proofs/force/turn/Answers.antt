@@ -1,5 +1,4 @@
 use mathlib.Core.Path.{_∙_}
-use mir.Val.{SFits}
 use mir.Syntax.{w64}
 use borrow.Author.Needs.{sfits-of}
 use Rattle.std.proofs.shelf.Signed.{toZ-ofZ}
@@ -19,4 +18,4 @@ returns g c =
     let k = c .args .kit .now in
     let e = simp toZ-ofZ at (c .pull .ensures) in
     toZ-ofZ w64 _ (lever-fits (g .K·Kit .laws k) (g .K·Kit .lawful k) (c .args .curvature) (c .pre .gentle) (c .args .top) (c .pre .within) (c .args .fibre .now) (c .pre .ranged) (c .pull .result) (sfits-of (c .pull .ok)) e)
-      ∙ lever-taken (g .K·Kit .laws k) (g .K·Kit .lawful k) (c .args .curvature) (c .pre .gentle) (c .args .top) (c .pre .within) (c .args .fibre .now) (c .pre .ranged) (c .pull .result) (sfits-of (c .pull .ok)) e
+    ∙ lever-taken (g .K·Kit .laws k) (g .K·Kit .lawful k) (c .args .curvature) (c .pre .gentle) (c .args .top) (c .pre .within) (c .args .fibre .now) (c .pre .ranged) (c .pull .result) (sfits-of (c .pull .ok)) e

@@ -13,7 +13,7 @@ returns g c =
     let laws = g .K·Kit .laws (c .args .kit .now) in
     let f = c .args .fibre .now in
     let e : c .unwrap-or .result ≡ limits-of (law-of laws f) =
-      c .unwrap-or .ensures ∙ ap (λ o. valueOr o (record { compression = 1; tension = 1 })) (c .limits .ensures) ∙ limits-are (reached laws (f .material)) in
+    c .unwrap-or .ensures ∙ ap (λ o. valueOr o (record { compression = 1; tension = 1 })) (c .limits .ensures) ∙ limits-are (reached laws (f .material)) in
     let law = law-of-lawful laws (g .K·Kit .lawful (c .args .kit .now)) f in
     record {
       compression = ap (λ (l : Limits). l .compression) e;

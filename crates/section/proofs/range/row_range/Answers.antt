@@ -1,7 +1,7 @@
 use mathlib.Core.Path.{refl}
 use Rattle.std.proofs.shelf.Maps.{nth-getD}
 use Rattle.section.proofs.Summing.{item-ranged}
-use Rattle.section.proofs.Highest.{Own, narrowed-first, narrowed-more, narrowed-last}
+use Rattle.section.proofs.Highest.{narrowed-first, narrowed-more, narrowed-last}
 use Rattle.section.proofs.range.row_range.Needs as need
 
 pub fibre-range-range-requires : need.fibre-range-range-requires
