@@ -5,8 +5,7 @@ pub mod fibre;
 mod force;
 mod range;
 pub mod section;
-pub mod truths;
-pub mod worked;
-
 #[cfg(test)]
 mod tests;
+pub mod truths;
+pub mod worked;

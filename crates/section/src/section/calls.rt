@@ -96,6 +96,12 @@ impl<K: Kit> Section<K> {
         ensures asked { λ r. ⌜ AskedOf (K·Kit .laws (now (self .entry) .row .kit)) (book-of (now (self .entry))) curvature r ⌝ }
         ensures truths { λ _. ⌜ TruthsOfBook (K·Kit .laws (now (self .entry) .row .kit)) (book-of (now (self .entry))) curvature ⌝ }
     {
-        ask(&self.row.kit, &self.row.fibres, self.load.force, self.load.depth, curvature)
+        ask(
+            &self.row.kit,
+            &self.row.fibres,
+            self.load.force,
+            self.load.depth,
+            curvature,
+        )
     }
 }
