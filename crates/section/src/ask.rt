@@ -17,11 +17,11 @@ use search::greatest;
 use search::least;
 
 // In nano for each sixteenth of an inch of depth.
-pub const MOST_CURVATURE: u32 = 65535;
+const MOST_CURVATURE: u32 = 65535;
 
 // The ends of the top strains that balance the load, or the first ground that bars them. Each search asks for at most 33 forces.
-// Every caller in our own crates proves `ranged`, `few` and `loaded`.
-pub fn ask<K: Kit>(
+// Every caller in this crate proves `ranged`, `few` and `loaded`.
+pub(crate) fn ask<K: Kit>(
     kit: &K,
     fibres: &[Fibre],
     load: i64,

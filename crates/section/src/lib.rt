@@ -1,5 +1,5 @@
 // A section of fibres, and what it answers at a curvature.
-pub mod ask;
+mod ask;
 pub mod ends;
 pub mod fibre;
 mod force;
