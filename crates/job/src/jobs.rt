@@ -1,26 +1,39 @@
 // A job that goes on line by line.
-ghost use Rattle.std.specs.Prelude.{◌≡◌, Decides, MatchResult, slice_index};
+ghost use Rattle.std.specs.Prelude.{◌≡◌, [], Decides, MatchResult, slice_index};
 ghost use Rattle.words.specs.Words.{texts};
-ghost use Rattle.section.specs.Calls.{first_book};
-ghost use Rattle.section.specs.Books.{book_of, kit_of};
-ghost use Rattle.commands.specs.Commands.{call_name};
-ghost use Rattle.job.specs.Jobs.{new_job, CallMade, WalkMade, Performed, Remark, Prints};
-ghost use Rattle.job.specs.Standing.{materials_of, standing};
+ghost use Rattle.job.specs.Commands.{card_name};
+ghost use Rattle.job.specs.Jobs.{Makes, MakesNone, Performed, Remark, Prints};
 
+use crate::command::{Command, Name};
 use crate::material::Material;
-use crate::materials::{add_card, add_points, look_up_reach, look_up_stress};
-use crate::printed::Printed;
-use crate::stage::{Job, Stage};
+use crate::printed::{Answer, Printed};
+use crate::read::read;
+use cards::two_line::TwoLine;
 use cards::written::WrittenCard;
-use commands::command::{Command, Name};
-use commands::fault::Fault;
-use commands::read::read;
+use kits::kit::Kit;
+use kits::reach::reach;
+use laws::law::Law;
 use laws::point::Point;
-use section::call::Call;
-use section::section::Section;
+use laws::point_law::PointLaw;
+use refusal::Refusal;
 use std::alloc::{AllocError, Global};
-use std::mem;
 use words::words;
+
+// The materials of a job are one kit, numbered from 0 in the order in which they were accepted.
+#[derive(Drop)]
+pub struct Job {
+    materials: Vec<Material>,
+}
+
+fn name_of_card(card: &WrittenCard) -> Name
+    ensures { result ≡ card_name card.now }
+{
+    match card {
+        WrittenCard::Uhpc(_) => Name::Uhpc,
+        WrittenCard::Deck(_) => Name::Deck,
+        WrittenCard::Steel(_) => Name::Steel,
+    }
+}
 
 fn begins_remark(word: &[u8]) -> bool
     ensures { Decides result (slice_index word.now 0 ≡ 35) }
@@ -41,152 +54,95 @@ fn is_remark(words: &[&[u8]]) -> bool
     }
 }
 
-fn name_of_call(call: &Call) -> Name
-    ensures { result ≡ call_name call.now }
+// The law that a card makes with these factors.
+fn law_of(card: WrittenCard, alpha: i64, gamma: i64) -> Result<TwoLine, Refusal>
+    ensures { MatchResult result (λ l. Makes card alpha gamma l) (λ e. MakesNone card alpha gamma e) }
 {
-    match call {
-        Call::Put { .. } => Name::Fibre,
-        Call::Take { .. } => Name::Take,
-        Call::Load { .. } => Name::Load,
-        Call::Ask { .. } => Name::Ask,
-        Call::Start => Name::Start,
-        Call::Step => Name::Step,
-        Call::Reopen => Name::Reopen,
-        Call::Result => Name::Result,
-    }
-}
-
-// A new section over the materials, which move into it.
-// Memory is reserved before they move, so that the want of it loses none.
-fn begin(heap: Global, materials: &mut Vec<Material>) -> Result<Section<Vec<Material>>, AllocError>
-    ensures { MatchResult result (λ s. (book_of s ≡ first_book) × (kit_of s ≡ materials.old)) (λ _. materials.new.items ≡ materials.old.items) }
-{
-    let none: Vec<Material> = Vec::new(heap);
-    let reserved = Section::new(heap, none)?;
-    Ok(reserved.renew(mem::replace(materials, Vec::new(heap))))
-}
-
-// A material's line after the section began.
-fn too_late(number: u64) -> Printed
-    ensures { result ≡ Printed.Unreadable number Fault.Begun }
-{
-    Printed::Unreadable {
-        line: number,
-        fault: Fault::Begun,
+    match card.check() {
+        Ok(checked) => match checked.reduce(alpha, gamma) {
+            Ok(reduced) => Ok(reduced.law()),
+            Err(refused) => Err(refused.refusal),
+        },
+        Err(refused) => Err(refused.refusal),
     }
 }
 
 impl Job {
     // A job with no material yet.
     pub fn new(heap: Global) -> Job
-        ensures { standing result ≡ new_job }
+        ensures { result.materials.items ≡ [] }
     {
         Job {
-            stage: Stage::Materials(Vec::new(heap)),
+            materials: Vec::new(heap),
         }
     }
 
-    // The kit, fixed or not.
-    fn materials(&self) -> &Vec<Material>
-        ensures { result.now.items ≡ materials_of self.now.stage }
+    fn add_card(&mut self, card: WrittenCard, alpha: i64, gamma: i64) -> Result<Printed, AllocError>
+        ensures { MatchResult result (λ p. Performed self.old.materials.items (Command.Card card alpha gamma) p self.new.materials.items) (λ _. self.new.materials.items ≡ self.old.materials.items) }
     {
-        match &self.stage {
-            Stage::Materials(materials) => materials,
-            Stage::Section(section) => section.kit(),
-        }
-    }
-
-    fn card(
-        &mut self,
-        number: u64,
-        card: WrittenCard,
-        alpha: i64,
-        gamma: i64,
-    ) -> Result<Printed, AllocError>
-        ensures { MatchResult result (λ p. Performed (standing self.old) number (Command.Card card alpha gamma) p (standing self.new)) (λ _. standing self.new ≡ standing self.old) }
-    {
-        match &mut self.stage {
-            Stage::Materials(materials) => {
-                let printed = add_card(materials, card, alpha, gamma)?;
-                Ok(printed)
+        let name = name_of_card(&card);
+        match law_of(card, alpha, gamma) {
+            Ok(law) => {
+                let number = self.materials.len();
+                self.materials.push(Material::Card(law))?;
+                Ok(Printed::Answered(Answer::Card { name, number, law }))
             }
-            Stage::Section(_) => Ok(too_late(number)),
+            Err(refusal) => Ok(Printed::Refused(refusal)),
         }
     }
 
-    fn points(
+    fn add_points(
         &mut self,
-        number: u64,
         points: Vec<Point>,
         compression: i64,
         tension: i64,
     ) -> Result<Printed, AllocError>
-        ensures { MatchResult result (λ p. Performed (standing self.old) number (Command.Points points compression tension) p (standing self.new)) (λ _. standing self.new ≡ standing self.old) }
+        ensures { MatchResult result (λ p. Performed self.old.materials.items (Command.Points points compression tension) p self.new.materials.items) (λ _. self.new.materials.items ≡ self.old.materials.items) }
     {
-        match &mut self.stage {
-            Stage::Materials(materials) => {
-                let printed = add_points(materials, points, compression, tension)?;
-                Ok(printed)
+        match PointLaw::new(points, compression, tension) {
+            Ok(law) => {
+                let number = self.materials.len();
+                self.materials.push(Material::Points(law))?;
+                Ok(Printed::Answered(Answer::Points { number }))
             }
-            Stage::Section(_) => Ok(too_late(number)),
+            Err(refusal) => Ok(Printed::Refused(refusal)),
         }
     }
 
-    // Makes a call on the section, which begins with the first one.
-    fn call(&mut self, heap: Global, call: Call) -> Result<Printed, AllocError>
-        ensures { MatchResult result (λ p. CallMade (standing self.old) call p (standing self.new)) (λ _. standing self.new ≡ standing self.old) }
+    fn stress(&self, number: i64, strain: i32) -> Printed
+        ensures { Performed self.now.materials.items (Command.Stress number strain) result self.now.materials.items }
     {
-        let name = name_of_call(&call);
-        match &mut self.stage {
-            Stage::Section(section) => Ok(Printed::of_call(name, section.perform(call))),
-            Stage::Materials(materials) => {
-                let mut section = begin(heap, materials)?;
-                let printed = Printed::of_call(name, section.perform(call));
-                self.stage = Stage::Section(section);
-                Ok(printed)
-            }
+        let Ok(place) = usize::try_from(number) else {
+            return Printed::Refused(Refusal::NoLaw);
+        };
+        match self.materials.stress(place, strain) {
+            Some(stress) => Printed::Answered(Answer::Stress { stress }),
+            None => Printed::Refused(Refusal::NoLaw),
         }
     }
 
-    // Walks the section to the end; a walk may begin it too.
-    fn walk(&mut self, heap: Global) -> Result<Printed, AllocError>
-        ensures { MatchResult result (λ p. WalkMade (standing self.old) p (standing self.new)) (λ _. standing self.new ≡ standing self.old) }
+    fn reach(&self, number: i64, stress: i32) -> Printed
+        ensures { Performed self.now.materials.items (Command.Reach number stress) result self.now.materials.items }
     {
-        match &mut self.stage {
-            Stage::Section(section) => Ok(Printed::of_walk(section.walk())),
-            Stage::Materials(materials) => {
-                let mut section = begin(heap, materials)?;
-                let printed = Printed::of_walk(section.walk());
-                self.stage = Stage::Section(section);
-                Ok(printed)
-            }
+        match reach(&self.materials, number, stress) {
+            Ok(strain) => Printed::Answered(Answer::Reach { strain }),
+            Err(refusal) => Printed::Refused(refusal),
         }
     }
 
-    // Does what the command of a line says, and answers the line to print; want of memory changes nothing.
-    pub fn perform(
-        &mut self,
-        heap: Global,
-        number: u64,
-        command: Command,
-    ) -> Result<Printed, AllocError>
-        ensures { MatchResult result (λ p. Performed (standing self.old) number command p (standing self.new)) (λ _. standing self.new ≡ standing self.old) }
+    // Does what the command says, and answers the line to print; want of memory changes nothing.
+    pub fn perform(&mut self, command: Command) -> Result<Printed, AllocError>
+        ensures { MatchResult result (λ p. Performed self.old.materials.items command p self.new.materials.items) (λ _. self.new.materials.items ≡ self.old.materials.items) }
     {
         match command {
-            Command::Card { card, alpha, gamma } => self.card(number, card, alpha, gamma),
+            Command::Card { card, alpha, gamma } => self.add_card(card, alpha, gamma),
             Command::Points {
                 points,
                 compression,
                 tension,
-            } => self.points(number, points, compression, tension),
-            Command::Stress { number, strain } => {
-                Ok(look_up_stress(self.materials(), number, strain))
-            }
-            Command::Reach { number, stress } => {
-                Ok(look_up_reach(self.materials(), number, stress))
-            }
-            Command::Call(call) => self.call(heap, call),
-            Command::Walk => self.walk(heap),
+            } => self.add_points(points, compression, tension),
+            Command::Stress { number, strain } => Ok(self.stress(number, strain)),
+            Command::Reach { number, stress } => Ok(self.reach(number, stress)),
         }
     }
 
@@ -197,7 +153,7 @@ impl Job {
         number: u64,
         line: &[u8],
     ) -> Result<Option<Printed>, AllocError>
-        ensures { MatchResult result (λ p. Prints (standing self.old) number line.now p (standing self.new)) (λ _. standing self.new ≡ standing self.old) }
+        ensures { MatchResult result (λ p. Prints self.old.materials.items number line.now p self.new.materials.items) (λ _. self.new.materials.items ≡ self.old.materials.items) }
     {
         let words = words(heap, line)?;
         if is_remark(&words) {
@@ -205,7 +161,7 @@ impl Job {
         }
         match read(heap, &words)? {
             Ok(command) => {
-                let printed = self.perform(heap, number, command)?;
+                let printed = self.perform(command)?;
                 Ok(Some(printed))
             }
             Err(fault) => Ok(Some(Printed::Unreadable {

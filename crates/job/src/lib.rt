@@ -1,8 +1,10 @@
-// A job: what each of its commands does, and the line that it prints.
+// A job: lines of text that are commands, what each does, and the line that it prints.
+pub mod command;
+pub mod fault;
 pub mod jobs;
 pub mod material;
-mod materials;
+mod numbers;
 pub mod printed;
-pub mod stage;
+pub mod read;
 #[cfg(test)]
 mod tests;

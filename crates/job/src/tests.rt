@@ -1,13 +1,10 @@
 // Lines of every kind, and what each prints.
-use crate::stage::Job;
+use crate::jobs::Job;
 use std::alloc::Global;
 use std::test::Fail;
 
-mod sections;
-mod walks;
-
 // What a job prints, each line with a line end.
-pub(crate) fn output(heap: Global, lines: &[&[u8]]) -> Result<String, Fail> {
+fn output(heap: Global, lines: &[&[u8]]) -> Result<String, Fail> {
     let mut job = Job::new(heap);
     let mut out = String::new(heap);
     let mut number: u64 = 0;
@@ -34,7 +31,7 @@ fn remarks_print_nothing(rt: HostRuntime) -> Result<(), Fail> {
 
 #[test]
 fn unreadable_lines_say_why(rt: HostRuntime) -> Result<(), Fail> {
-    let lines: [&[u8]; 24] = [
+    let lines: [&[u8]; 18] = [
         b"UHPC 1 2 3 4 5 6 7",
         b"\xff\xfe",
         b"uhpc",
@@ -53,12 +50,6 @@ fn unreadable_lines_say_why(rt: HostRuntime) -> Result<(), Fail> {
         b"points 1",
         b"points 1 1 0 0 5",
         b"points 1 1 0 0 5 x",
-        b"fibre 1 2 3",
-        b"take",
-        b"load 1",
-        b"ask 1 2",
-        b"ask -1",
-        b"ask 4294967296",
     ];
     let out = output(rt.alloc(), &lines)?;
     let want = "E 1 no such command
@@ -79,12 +70,6 @@ E 15 expected reach NUMBER STRESS
 E 16 expected points COMPRESSION TENSION and then STRAIN STRESS for each point
 E 17 expected points COMPRESSION TENSION and then STRAIN STRESS for each point
 E 18 place 5 is not a whole number of 64 bits
-E 19 expected fibre DEPTH AREA MATERIAL INITIAL
-E 20 expected take POSITION
-E 21 expected load FORCE DEPTH
-E 22 expected ask CURVATURE
-E 23 place 0 is not a whole number from 0 to 4294967295
-E 24 place 0 is not a whole number from 0 to 4294967295
 ";
     assert_eq!(rt; out.as_str(), want);
     Ok(())

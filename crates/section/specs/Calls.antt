@@ -1,73 +1,128 @@
 -- The book of a section, and what each call answers and leaves in it.
-use Rattle.std.specs.Prelude.{◌≡◌, ℕ, ◌+◌, List, [], ℤ, pos, Ok, Err, Result, MatchResult, unsigned_abs}
-use Rattle.std.specs.List.{AllByRecursion as All}
+use Rattle.std.specs.Prelude.{◌≡◌, ℕ, ◌<◌, ◌≤◌, Bool, ◌&&◌, T, ◌⊎◌, List, [], ◌∷◌, ◌++◌, length, ℤ, pos, neg_ℤ, ◌≤ℤ◌, ◌<ℤ◌, Some, Result, MatchResult, int_le, unsigned_abs}
+use Rattle.std.specs.List.{remove, AllByRecursion as All}
+use Rattle.refusal.specs.First.{FirstOut}
 use Rattle.refusal.specs.Refusals.{Says}
 use Rattle.refusal.specs.declared.Refusal.{Refusal}
 use Rattle.laws.specs.Meaning.{Meaning}
-use Rattle.fibres.specs.Asked.{Asked}
-use Rattle.fibres.specs.Figures.{Within, load_figures, FigureRefused}
-use Rattle.fibres.specs.Rows.{Put as RowPut, Take as RowTake}
-use Rattle.fibres.specs.Truths.{TruthsOf}
-use Rattle.fibres.specs.Walks.{Answered}
-use Rattle.fibres.specs.declared.ends.Ends.{Ends}
-use Rattle.fibres.specs.declared.fibre.Fibre.{Fibre}
-use Rattle.section.specs.declared.state.State.{State}
-use Rattle.section.specs.declared.state.State.TheVariants.{Draft, Walking, Ended}
-use Rattle.section.specs.declared.outcome.Outcome.{Outcome}
+use Rattle.kits.specs.Kits.{numbered}
+use Rattle.kits.specs.Reach.{NumberRefused}
+use Rattle.section.specs.Asked.{Asked}
+use Rattle.section.specs.Truths.{TruthsOf}
+use Rattle.section.specs.declared.ends.Ends.{Ends}
+use Rattle.section.specs.declared.fibre.Fibre.{Fibre}
 
--- the fibres by position, the load and its depth, and the state
+-- the fibres by position, the load and its depth
 pub record Book : Type 0 where
   pub fibres : List Fibre
   pub load : ℤ
   pub depth : ℕ
-  pub state : State
 
 abbrev pub first_book : Book
-first_book = record { fibres = []; load = pos 0; depth = 0; state = Draft }
+first_book = record { fibres = []; load = pos 0; depth = 0 }
 
 abbrev pub refilled : Book → List Fibre → Book
-refilled b fibres = record { fibres = fibres; load = b.load; depth = b.depth; state = b.state }
+refilled b fibres = record { fibres = fibres; load = b.load; depth = b.depth }
 
 abbrev pub loaded : Book → ℤ → ℕ → Book
-loaded b load depth = record { fibres = b.fibres; load = load; depth = depth; state = b.state }
+loaded b load depth = record { fibres = b.fibres; load = load; depth = depth }
 
-abbrev pub moved : Book → State → Book
-moved b state = record { fibres = b.fibres; load = b.load; depth = b.depth; state = state }
+-- ---- figures and their ranges
 
--- ---- asks
+-- a figure as it was written, and the ends of its range
+pub record Figure : Type 0 where
+  pub least : ℤ
+  pub written : ℤ
+  pub most : ℤ
 
--- what an ask at a curvature comes to, by the book
-abbrev pub AskedOf : List Meaning → Book → ℕ → Result Ends Refusal → Type 0
-AskedOf laws book curvature answer = Asked laws book.fibres book.load book.depth curvature answer
+abbrev pub within : Figure → Bool
+within f = int_le f.least f.written && int_le f.written f.most
 
--- an ask at a curvature is answered
-abbrev pub AnsweredAt : List Meaning → Book → ℕ → Type 0
-AnsweredAt laws book curvature = Answered laws book.fibres book.load book.depth curvature
+abbrev pub Within : Figure → Type 0
+Within f = T (within f)
 
--- and what every such ask is true to
-abbrev pub TruthsOfBook : List Meaning → Book → ℕ → Type 0
-TruthsOfBook laws book curvature = TruthsOf laws book.fibres book.load book.depth curvature
+-- the depth, the area and the initial strain of a fibre
+abbrev pub fibre_figures : ℤ → ℤ → ℤ → List Figure
+fibre_figures depth area initial =
+    record { least = pos 0; written = depth; most = pos 4096 }
+    ∷ record { least = pos 1; written = area; most = pos 2000000 }
+    ∷ record { least = neg_ℤ (pos 100000000); written = initial; most = pos 100000000 }
+    ∷ []
 
--- ---- edits
+-- the load and its depth
+abbrev pub load_figures : ℤ → ℤ → List Figure
+load_figures load depth =
+    record { least = neg_ℤ (pos 400000000000000); written = load; most = pos 400000000000000 }
+    ∷ record { least = pos 0; written = depth; most = pos 4096 }
+    ∷ []
 
--- 5: the state does not allow the call
-abbrev pub OutOfTurn : {A : Type 0} → Result A Refusal → Type 0
-OutOfTurn answer = MatchResult answer (λ _. ⊥) (λ refusal. Says refusal 5 [])
+-- refused by a number, with the place of the first figure that is out of range
+pub record FigureRefused (number : ℕ) (figures : List Figure) (refusal : Refusal) : Type 0 where
+  pub place : ℕ
+  pub first : FirstOut Within figures place
+  pub says : Says refusal number (pos place ∷ [])
 
--- what a draft allows; in any other state the call is out of turn, and changes nothing
-abbrev pub InDraft : {A : Type 0} → State → Book → Result A Refusal → Book → Type 0 → Type 0
-InDraft Draft before answer after Allowed = Allowed
-InDraft (Walking curvature) before answer after Allowed = OutOfTurn answer × (after ≡ before)
-InDraft (Ended curvature cause) before answer after Allowed = OutOfTurn answer × (after ≡ before)
+-- ---- put
 
--- what the row of fibres answers, and nothing but the fibres is changed
+abbrev pub Room : Book → Type 0
+Room b = length b.fibres < 512
+
+-- the fibre of figures that are in range
+abbrev pub fibre_of : ℤ → ℤ → ℤ → ℤ → Fibre
+fibre_of depth area material initial = record { depth = unsigned_abs depth; area = unsigned_abs area; material = unsigned_abs material; initial = initial }
+
+-- the fibre stands after the others, and its position is answered
+pub record PutTaken (laws : List Meaning) (before : Book) (depth area material initial : ℤ) (position : ℕ) (after : Book) : Type 0 where
+  pub room : Room before
+  pub figures_in : All Within (fibre_figures depth area initial)
+  pub law : Meaning
+  pub law_is : numbered laws material ≡ Some law
+  pub position_is : position ≡ length before.fibres
+  pub book_is : after ≡ refilled before (before.fibres ++ fibre_of depth area material initial ∷ [])
+
+-- 6: there are 512 fibres already
+abbrev pub Full : Book → Refusal → Type 0
+Full before refusal = (512 ≤ length before.fibres) × Says refusal 6 []
+
+-- 7: a figure is out of range
+abbrev pub FibreRefused : Book → ℤ → ℤ → ℤ → Refusal → Type 0
+FibreRefused before depth area initial refusal = Room before × FigureRefused 7 (fibre_figures depth area initial) refusal
+
+-- 8: no law has the number
+abbrev pub MaterialRefused : List Meaning → Book → ℤ → ℤ → ℤ → ℤ → Refusal → Type 0
+MaterialRefused laws before depth area material initial refusal =
+    Room before × All Within (fibre_figures depth area initial) × NumberRefused laws material refusal
+
+abbrev pub PutRefused : List Meaning → Book → ℤ → ℤ → ℤ → ℤ → Refusal → Type 0
+PutRefused laws before depth area material initial refusal =
+    Full before refusal ⊎ (FibreRefused before depth area initial refusal ⊎ MaterialRefused laws before depth area material initial refusal)
+
 abbrev pub Put : List Meaning → Book → ℤ → ℤ → ℤ → ℤ → Result ℕ Refusal → Book → Type 0
-Put laws before depth area material initial answer after = InDraft before.state before answer after
-    (RowPut laws before.fibres depth area material initial answer after.fibres × (after ≡ refilled before after.fibres))
+Put laws before depth area material initial answer after =
+    MatchResult answer (λ position. PutTaken laws before depth area material initial position after)
+    (λ refusal. PutRefused laws before depth area material initial refusal × (after ≡ before))
+
+-- ---- take
+
+-- a fibre stands at the position
+abbrev pub Occupied : Book → ℤ → Type 0
+Occupied b position = (pos 0 ≤ℤ position) × (position <ℤ pos (length b.fibres))
+
+-- that fibre is gone, and each after it stands one position lower
+pub record Taken (before : Book) (position : ℤ) (after : Book) : Type 0 where
+  pub occupied : Occupied before position
+  pub book_is : after ≡ refilled before (remove before.fibres (unsigned_abs position))
+
+-- refused by 9 with the position as it was written
+pub record TakeRefused (before : Book) (position : ℤ) (refusal : Refusal) : Type 0 where
+  pub none : Occupied before position → ⊥
+  pub says : Says refusal 9 (position ∷ [])
 
 abbrev pub Take : Book → ℤ → Result (Unit {0}) Refusal → Book → Type 0
-Take before position answer after = InDraft before.state before answer after
-    (RowTake before.fibres position answer after.fibres × (after ≡ refilled before after.fibres))
+Take before position answer after =
+    MatchResult answer (λ _. Taken before position after) (λ refusal. TakeRefused before position refusal × (after ≡ before))
+
+-- ---- load
 
 -- the load and its depth are those that were written
 pub record Loaded (before : Book) (load depth : ℤ) (after : Book) : Type 0 where
@@ -75,51 +130,13 @@ pub record Loaded (before : Book) (load depth : ℤ) (after : Book) : Type 0 whe
   pub book_is : after ≡ loaded before load (unsigned_abs depth)
 
 abbrev pub Loads : Book → ℤ → ℤ → Result (Unit {0}) Refusal → Book → Type 0
-Loads before load depth answer after = InDraft before.state before answer after
-    (MatchResult answer (λ _. Loaded before load depth after) (λ refusal. FigureRefused 10 (load_figures load depth) refusal × (after ≡ before)))
+Loads before load depth answer after =
+    MatchResult answer (λ _. Loaded before load depth after) (λ refusal. FigureRefused 10 (load_figures load depth) refusal × (after ≡ before))
 
--- ---- the walk
+-- what an ask at a curvature comes to, by the book
+abbrev pub AskedOf : List Meaning → Book → ℕ → Result Ends Refusal → Type 0
+AskedOf laws book curvature answer = Asked laws book.fibres book.load book.depth curvature answer
 
--- the walk stands at 0, where an ask is answered; else the call is refused as that ask is
-abbrev pub Starts : List Meaning → Book → Result State Refusal → Book → Type 0
-Starts laws before answer after = InDraft before.state before answer after
-    (MatchResult answer (λ next. AnsweredAt laws before 0 × (next ≡ Walking 0) × (after ≡ moved before next))
-    (λ refusal. AskedOf laws before 0 (Err refusal) × (after ≡ before)))
-
--- the walk goes on to the next curvature where an ask there is answered; else it ends, and the refusal of that ask is the cause
-abbrev pub StepsTo : List Meaning → Book → ℕ → State → Type 0
-StepsTo laws before curvature Draft = ⊥
-StepsTo laws before curvature (Walking next) = (next ≡ curvature + 1) × AnsweredAt laws before (curvature + 1)
-StepsTo laws before curvature (Ended last cause) = (last ≡ curvature) × AskedOf laws before (curvature + 1) (Err cause)
-
-abbrev pub StepsFrom : List Meaning → State → Book → Result State Refusal → Book → Type 0
-StepsFrom laws Draft before answer after = OutOfTurn answer × (after ≡ before)
-StepsFrom laws (Walking curvature) before answer after = MatchResult answer (λ next. StepsTo laws before curvature next × (after ≡ moved before next)) (λ _. ⊥)
-StepsFrom laws (Ended curvature cause) before answer after = OutOfTurn answer × (after ≡ before)
-
-abbrev pub Steps : List Meaning → Book → Result State Refusal → Book → Type 0
-Steps laws before answer after = StepsFrom laws before.state before answer after
-
--- the walk is given up, ended or not
-abbrev pub ReopensFrom : State → Book → Result State Refusal → Book → Type 0
-ReopensFrom Draft before answer after = OutOfTurn answer × (after ≡ before)
-ReopensFrom (Walking curvature) before answer after = (answer ≡ Ok Draft) × (after ≡ moved before Draft)
-ReopensFrom (Ended curvature cause) before answer after = (answer ≡ Ok Draft) × (after ≡ moved before Draft)
-
-abbrev pub Reopens : Book → Result State Refusal → Book → Type 0
-Reopens before answer after = ReopensFrom before.state before answer after
-
--- the curvature at which the walk ended, the ends that an ask there answers, and the cause
-pub record Concluded (laws : List Meaning) (book : Book) (curvature : ℕ) (cause : Refusal) (outcome : Outcome) : Type 0 where
-  pub curvature_is : outcome.curvature ≡ curvature
-  pub ends_are : AskedOf laws book curvature (Ok outcome.ends)
-  pub cause_is : outcome.cause ≡ cause
-
-abbrev pub ConcludesFrom : List Meaning → State → Book → Result Outcome Refusal → Type 0
-ConcludesFrom laws Draft book answer = OutOfTurn answer
-ConcludesFrom laws (Walking curvature) book answer = OutOfTurn answer
-ConcludesFrom laws (Ended curvature cause) book answer =
-    MatchResult answer (Concluded laws book curvature cause) (λ refusal. AskedOf laws book curvature (Err refusal))
-
-abbrev pub Concludes : List Meaning → Book → Result Outcome Refusal → Type 0
-Concludes laws book answer = ConcludesFrom laws book.state book answer
+-- and what every such ask is true to
+abbrev pub TruthsOfBook : List Meaning → Book → ℕ → Type 0
+TruthsOfBook laws book curvature = TruthsOf laws book.fibres book.load book.depth curvature

@@ -1,8 +1,9 @@
-pub mod States
+pub mod Fibres
+pub mod Ranges
+pub mod ForceRises
+pub mod Asked
+pub mod Range
+pub mod Truths
+pub mod Worked
 pub mod Calls
-pub mod Advances
 pub mod Books
-pub mod Turns
-pub mod Promise
-pub mod Written
-pub mod Onwards

@@ -1,10 +1,11 @@
-// A section: a row of fibres under a load, every call on it, and the walk of its curvature.
-pub mod call;
-mod cause;
-pub mod outcome;
-pub mod replay;
+// A section of fibres, and what it answers at a curvature.
+mod ask;
+pub mod ends;
+pub mod fibre;
+mod force;
+mod range;
 pub mod section;
-pub mod state;
 #[cfg(test)]
 mod tests;
-mod walk;
+pub mod truths;
+pub mod worked;

@@ -1,7 +1,7 @@
-// tetherspan: reads a job from each file that its arguments name, `-` being standard input, or from standard input alone, and prints a line for each command.
+// tetherspan: reads a job from the file that its first argument names, or from standard input, and prints a line for each command.
 use anyhow::anyhow;
+use job::jobs::Job;
 use job::printed::Printed;
-use job::stage::Job;
 use std::fs::File;
 use std::io::{BufRead, BufReader, Read};
 use std::{env, io};
@@ -36,20 +36,10 @@ fn answer<R: Read + Drop>(rt: &HostRuntime, input: R) -> anyhow::Result<bool> {
 }
 
 fn run(rt: &HostRuntime) -> anyhow::Result<()> {
-    let mut named = false;
-    let mut all_read = true;
-    for name in env::args(rt)?.skip(1) {
-        named = true;
-        let read = if name.as_str() == "-" {
-            answer(rt, rt.stdin())?
-        } else {
-            answer(rt, File::open(rt, name)?)?
-        };
-        all_read = all_read && read;
-    }
-    if !named {
-        all_read = answer(rt, rt.stdin())?;
-    }
+    let all_read = match env::args(rt)?.nth(1) {
+        Some(path) => answer(rt, File::open(rt, path)?)?,
+        None => answer(rt, rt.stdin())?,
+    };
     if all_read {
         Ok(())
     } else {

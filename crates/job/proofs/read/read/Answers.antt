@@ -1,0 +1,10 @@
+use Rattle.std.proofs.Common.{◌≡◌, ℕ, List, [], ◌∷◌, length, sym, refl, ap, subst, arith}
+use Rattle.std.proofs.lemmas.List.{nil_from_length}
+use Rattle.words.specs.Words.{texts}
+use Rattle.job.specs.declared.fault.Fault.TheVariants.{Unknown}
+use Rattle.job.specs.Faults.{Faulty}
+use Rattle.job.proofs.read.read.Goals as goal
+
+pub returns-in-default : goal.returns-in-default
+returns-in-default c =
+    subst (λ ts. Faulty ts Unknown) (sym (ap texts (nil_from_length c.args.words.now c.in-default.ensures.cases))) refl

@@ -1,0 +1,39 @@
+use Rattle.std.proofs.Common.{refl}
+use Rattle.std.proofs.lemmas.Option.{slice_get-get_or}
+use Rattle.section.proofs.Summing.{item_ranged}
+use Rattle.section.proofs.Highest.{narrowed_first, narrowed_more, narrowed_last}
+use Rattle.section.proofs.range.row_range.Goals as goal
+
+pub fibre-range-range-requires : goal.fibre-range-range-requires
+fibre-range-range-requires g c = record { gentle = c.requires.gentle; ranged = item_ranged c.args.fibres.now c.requires.ranged 0 _ c.requires.some }
+
+pub fibre-range-next-requires : goal.fibre-range-next-requires
+fibre-range-next-requires g c =
+    record { gentle = c.requires.gentle; ranged = item_ranged c.args.fibres.now c.requires.ranged c.loop-position.position _ c.loop-position-test.true }
+
+pub loop-position-init : goal.loop-position-init
+loop-position-init g c =
+    let e = c.fibre-range-range.ensures in
+    narrowed_first (g.K.Kit.laws c.args.kit.now) c.args.fibres.now c.args.curvature 0 _ c.fibre-range-range.result
+    (record {
+      stands = slice_get-get_or c.args.fibres.now 0 _ c.requires.some;
+      least_is = e.least;
+      greatest_is = e.greatest;
+      least_place = e.places.0;
+      greatest_place = e.places.1;
+    }) refl
+
+pub loop-position-preserved : goal.loop-position-preserved
+loop-position-preserved g c =
+    let e = c.fibre-range-next.ensures in
+    narrowed_more (g.K.Kit.laws c.args.kit.now) c.args.fibres.now c.args.curvature c.loop-position.position _ c.fibre-range-next.result
+    (record {
+      stands = slice_get-get_or c.args.fibres.now c.loop-position.position _ c.loop-position-test.true;
+      least_is = e.least;
+      greatest_is = e.greatest;
+      least_place = e.places.0;
+      greatest_place = e.places.1;
+    }) c.loop-position.range c.loop-position.invariant c.shared-range.result c.shared-range.ensures.least c.shared-range.ensures.greatest
+
+pub returns : goal.returns
+returns g c = narrowed_last (g.K.Kit.laws c.args.kit.now) c.args.fibres.now c.args.curvature _ c.loop-position.range c.loop-position-test.false c.loop-position.invariant
