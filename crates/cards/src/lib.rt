@@ -1,4 +1,6 @@
 // Cards of materials, from written over checked to reduced, and the two-line law that a reduced card makes.
+#![tactic(auto)]
+
 mod check;
 mod figures;
 mod reduce;

@@ -1,4 +1,6 @@
 // A job: lines of text that are commands, what each does, and the line that it prints.
+#![tactic(auto)]
+
 pub mod command;
 pub mod fault;
 pub mod jobs;

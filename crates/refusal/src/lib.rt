@@ -1,4 +1,6 @@
 // Why a call is refused: the one list of refusals, the number and the places of each, and how it prints.
+#![tactic(auto)]
+
 ghost use Rattle.std.specs.Prelude.{◌≡◌, Some};
 ghost use Rattle.refusal.specs.Refusals.{number as number_of_lem, places as places_of, listed, line, sentence as sentence_of};
 

@@ -1,4 +1,6 @@
 // A quantity over whole points that never falls, and the search for a point by its value.
+#![tactic(auto)]
+
 ghost use Rattle.std.specs.Prelude.{◌≡◌, ℤ, pos, ◌+ℤ◌, ◌-ℤ◌, ◌≤ℤ◌, ◌<ℤ◌, int_div};
 ghost use Rattle.search.specs.Points.{Least, LeastOrNone, GreatestOrNone, Only};
 

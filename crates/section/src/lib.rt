@@ -1,4 +1,6 @@
 // A section of fibres, and what it answers at a curvature.
+#![tactic(auto)]
+
 mod ask;
 pub mod ends;
 pub mod fibre;

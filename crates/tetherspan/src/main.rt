@@ -1,4 +1,6 @@
 // tetherspan: reads a job from the file that its first argument names, or from standard input, and prints a line for each command.
+#![tactic(auto)]
+
 use anyhow::anyhow;
 use job::jobs::Job;
 use job::printed::Printed;

@@ -1,4 +1,6 @@
 // Cuts a line of any bytes into its words.
+#![tactic(auto)]
+
 ghost use Rattle.std.specs.Prelude.{◌≡◌, ℕ, ◌<◌, ◌≤◌, List, length, IfOk, ◌≢◌, slice_index};
 ghost use Rattle.words.specs.Words.{blank, Run, WordsOf, texts};
 
