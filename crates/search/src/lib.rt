@@ -33,9 +33,9 @@ fn halfway(low: i32, high: i32) -> i32
 // Each turn halves what is left, so it asks for at most 32 values.
 fn bisect<Q: NeverFalls>(quantity: &Q, low: i32, high: i32, target: i64) -> i32
     requires ordered { low ≤ℤ high }
-    requires covered { (x : ℤ) → low ≤ℤ x → x ≤ℤ high → covers quantity.now x }
-    requires reached { target ≤ℤ value quantity.now high }
-    ensures { Least (λ x. target ≤ℤ value quantity.now x) low high result }
+    requires covered { (x : ℤ) → low ≤ℤ x → x ≤ℤ high → Q.covers quantity.now x }
+    requires reached { target ≤ℤ Q.value quantity.now high }
+    ensures { Least (λ x. target ≤ℤ Q.value quantity.now x) low high result }
 {
     let mut bottom = low;
     let mut top = high;
@@ -53,9 +53,9 @@ fn bisect<Q: NeverFalls>(quantity: &Q, low: i32, high: i32, target: i64) -> i32
 // The least point from low to high at which the value is not below the target, or that there is none.
 // Every caller in our own crates proves `covered`.
 pub fn least<Q: NeverFalls>(quantity: &Q, low: i32, high: i32, target: i64) -> Option<i32>
-    requires covered { (x : ℤ) → low ≤ℤ x → x ≤ℤ high → covers quantity.now x }
-    ensures found { LeastOrNone (λ x. target ≤ℤ value quantity.now x) low high result }
-    ensures only { Only (LeastOrNone (λ x. target ≤ℤ value quantity.now x) low high) result }
+    requires covered { (x : ℤ) → low ≤ℤ x → x ≤ℤ high → Q.covers quantity.now x }
+    ensures found { LeastOrNone (λ x. target ≤ℤ Q.value quantity.now x) low high result }
+    ensures only { Only (LeastOrNone (λ x. target ≤ℤ Q.value quantity.now x) low high) result }
 {
     if low > high || quantity.at(high) < target {
         return None;
@@ -66,9 +66,9 @@ pub fn least<Q: NeverFalls>(quantity: &Q, low: i32, high: i32, target: i64) -> O
 // The greatest point from low to high at which the value is not above the target, or that there is none.
 // Every caller in our own crates proves `covered`.
 pub fn greatest<Q: NeverFalls>(quantity: &Q, low: i32, high: i32, target: i64) -> Option<i32>
-    requires covered { (x : ℤ) → low ≤ℤ x → x ≤ℤ high → covers quantity.now x }
-    ensures found { GreatestOrNone (λ x. value quantity.now x ≤ℤ target) low high result }
-    ensures only { Only (GreatestOrNone (λ x. value quantity.now x ≤ℤ target) low high) result }
+    requires covered { (x : ℤ) → low ≤ℤ x → x ≤ℤ high → Q.covers quantity.now x }
+    ensures found { GreatestOrNone (λ x. Q.value quantity.now x ≤ℤ target) low high result }
+    ensures only { Only (GreatestOrNone (λ x. Q.value quantity.now x ≤ℤ target) low high) result }
 {
     if low > high {
         return None;

@@ -19,7 +19,7 @@ returns-then-low-high g c =
     elim c.then-low-high.branch [
       | then-low-high-via-then-low-high w ↦ nowhere_empty _ c.args.low c.args.high (omega (arith, ints, w.if-low-high.true))
       | then-low-high-via-else-low-high+then-at-target w ↦
-          let r : SFits w64 w.at.result = sfits_of w.at.type-inv in
+          let r : SFits w64 w.at.result = sfits_of w.at.type_inv in
           let e = simp to_z-of_z at w.at.ensures in
           let u = simp to_z-of_z at w.if-at-target.true in
           nowhere_not_at_end _ c.args.low c.args.high on (λ p. omega (arith, ints))
@@ -31,6 +31,6 @@ returns g c =
     let l = c.ranges.low in
     let h = c.ranges.high in
     let t = c.ranges.target in
-    let r : SFits w32 c.bisect.result = sfits_of c.bisect.type-inv in
+    let r : SFits w32 c.bisect.result = sfits_of c.bisect.type_inv in
     let f = simp to_z-of_z at c.bisect.ensures in
     simp to_z-of_z record { found = f; only = least_only _ c.args.low c.args.high (Some _) f }

@@ -3,19 +3,19 @@ use Rattle.words.proofs.Lists.{start, pushed, shorter, done, only_words}
 use Rattle.words.proofs.words.Goals as goal
 
 pub loop-rest-init : goal.loop-rest-init
-loop-rest-init c = start _ _ _ _ c.new-out.ensures.items c.split-run.ensures
+loop-rest-init c = start _ _ _ _ c.new-out.ensures.items c.split_run.ensures
 
 pub loop-rest-smaller : goal.loop-rest-smaller
 loop-rest-smaller c =
     let some : 0 < length c.loop-rest.rest.now = omega (arith, false-eqb _ 0 c.loop-rest-test.ensures) in
-    shorter _ _ _ _ _ c.loop-rest.invariant.begins some c.split-run-in-loop-rest.ensures c.split-run-in-loop-rest-2.ensures
+    shorter _ _ _ _ _ c.loop-rest.invariant.begins some c.split_run-in-loop-rest.ensures c.split_run-in-loop-rest-2.ensures
 
 pub loop-rest-preserved : goal.loop-rest-preserved
 loop-rest-preserved c =
     let some : 0 < length c.loop-rest.rest.now = omega (arith, false-eqb _ 0 c.loop-rest-test.ensures) in
     let found = vec_items c.loop-rest.out in
     let all = vec_items c.push.new.self in
-    pushed _ _ _ _ _ found all c.split-run-in-loop-rest.result.0 c.in-ok-push.ensures.items c.loop-rest.invariant some c.split-run-in-loop-rest.ensures c.split-run-in-loop-rest-2.ensures
+    pushed _ _ _ _ _ found all c.split_run-in-loop-rest.result.0 c.in_ok-push.ensures.items c.loop-rest.invariant some c.split_run-in-loop-rest.ensures c.split_run-in-loop-rest-2.ensures
 
 pub returns : goal.returns
 returns c =

@@ -9,12 +9,12 @@ use Rattle.cards.proofs.figures.whole.Goals as goal
 -- both tests passed
 inside : (c : goal.After-row-known·1) → within c.args.figure c.args.written ≡ true
 inside c =
-    ap (λ (r : Range). le r.least c.args.written && le c.args.written r.most) (sym c.range-of-least.ensures)
+    ap (λ (r : Range). le r.least c.args.written && le c.args.written r.most) (sym c.range_of-least.ensures)
     ∙ rw (c.if-least-written.true, c.if-written-most.true)
 
 -- what was rounded is the product of the definition
 rounded : (c : goal.After-row-known·1) → c.round.result ≡ float_round binary64 (mul binary64 c.args.written (range c.args.figure).scale)
-rounded c = c.round.ensures ∙ ap (λ (r : Range). float_round binary64 (mul binary64 c.args.written r.scale)) c.range-of-least.ensures
+rounded c = c.round.ensures ∙ ap (λ (r : Range). float_round binary64 (mul binary64 c.args.written r.scale)) c.range_of-least.ensures
 
 pub float-to-int-result : goal.float-to-int-result
 float-to-int-result c =

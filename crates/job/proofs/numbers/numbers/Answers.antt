@@ -20,13 +20,13 @@ loop-i-preserved g c =
       simp length-set c.loop-i.invariant.2,
     )
 
-pub returns-in-default : goal.returns-in-default
-returns-in-default g c =
+pub returns-in_default : goal.returns-in_default
+returns-in_default g c =
     let ts : List (List ℕ) = texts c.args.words.now in
     let i = c.loop-i.i in
     let inside : i < length ts = simp length-map (omega arith) in
     let word = get_or-map (λ t. t.now) c.args.words.now i _ [] (omega arith) in
-    first_out_at _ ts i [] inside c.loop-i.invariant.0 (λ form. c.in-default.ensures (subst g.T.Number.form word form))
+    first_out_at _ ts i [] inside c.loop-i.invariant.0 (λ form. c.in_default.ensures (subst g.T.Number.form word form))
 
 pub returns : goal.returns
 returns g c =

@@ -26,10 +26,10 @@ returns-then-words g c =
           elim c.then-words.branch [ then-words-via-then-words w ↦ omega (arith, w.if-words.true) | then-words-via-else-words+then-words-2 w ↦ absurd (w.if-words-2.true (omega (arith, w.if-words.false))) ],
     )
 
-pub overflow-add-result : goal.overflow-add-result
-overflow-add-result g c =
-    let within : c.in-Err-numbers.place < length (texts c.split-at.result.1.now) = first_out_within IsWhole _ _ c.in-Err-numbers.ensures in
-    let long : length (texts c.split-at.result.1.now) ≡ length c.split-at.result.1.now = length-map _ _ in
+pub overflow_add-result : goal.overflow_add-result
+overflow_add-result g c =
+    let within : c.in-Err-numbers.place < length (texts c.split_at.result.1.now) = first_out_within IsWhole _ _ c.in-Err-numbers.ensures in
+    let long : length (texts c.split_at.result.1.now) ≡ length c.split_at.result.1.now = length-map _ _ in
     search rules
 
 pub returns-in-Err-numbers : goal.returns-in-Err-numbers
@@ -39,11 +39,11 @@ returns-in-Err-numbers g c =
     let long : length (texts ws) ≡ length ws = length-map _ _ in
     let many : length (texts ws) ≡ g.row.R + g.row.W = omega arith in (
       c.requires.given _ many,
-      subst (All IsReal) (front_is ws _ _ n c.split-at.ensures.front c.requires.reals_are) c.in-Ok.ensures.0,
+      subst (All IsReal) (front_is ws _ _ n c.split_at.ensures.front c.requires.reals_are) c.in-Ok.ensures.0,
       (
         c.in-Err-numbers.place,
         ap (λ m. m + c.in-Err-numbers.place) c.requires.reals_are,
-        subst (λ ts. FirstOut IsWhole ts c.in-Err-numbers.place) (back_is ws _ _ n c.split-at.ensures.back c.requires.reals_are) c.in-Err-numbers.ensures,
+        subst (λ ts. FirstOut IsWhole ts c.in-Err-numbers.place) (back_is ws _ _ n c.split_at.ensures.back c.requires.reals_are) c.in-Err-numbers.ensures,
       ),
     )
 
@@ -53,5 +53,5 @@ returns-in-Err g c =
     let long : length (texts ws) ≡ length ws = length-map _ _ in
     let many : length (texts ws) ≡ g.row.R + g.row.W = omega arith in (
       c.requires.given _ many,
-      subst (λ ts. FirstOut IsReal ts c.in-Err.place) (front_is ws _ _ _ c.split-at.ensures.front c.requires.reals_are) c.in-Err.ensures,
+      subst (λ ts. FirstOut IsReal ts c.in-Err.place) (front_is ws _ _ _ c.split_at.ensures.front c.requires.reals_are) c.in-Err.ensures,
     )

@@ -14,5 +14,5 @@ spelling_is_text Points = (spelling Points, (refl, refl))
 spelling_is_text Stress = (spelling Stress, (refl, refl))
 spelling_is_text Reach = (spelling Reach, (refl, refl))
 
-pub returns-in-default : goal.returns-in-default
-returns-in-default c = λ n e. c.in-default.ensures.cases.0 (subst IsUtf8 (sym e) (spelling_is_text n))
+pub returns-in_default : goal.returns-in_default
+returns-in_default c = λ n e. c.in_default.ensures.cases.0 (subst IsUtf8 (sym e) (spelling_is_text n))

@@ -9,9 +9,9 @@ use Rattle.job.proofs.read.number_and_narrow.Goals as goal
 pub returns-in-Ok : goal.returns-in-Ok
 returns-in-Ok c =
     let ts : List (List ℕ) = texts c.args.words.now in
-    let numbers = c.in-ok-numbers.numbers in
+    let numbers = c.in_ok-numbers.numbers in
     let long : length numbers ≡ 2 = search rules in
-    let all : Pairwise Whole ts numbers = subst (λ n. Pairwise Whole (drop n ts) numbers) (sym c.requires.0.reals_are) c.in-ok-numbers.ensures.1 in
+    let all : Pairwise Whole ts numbers = subst (λ n. Pairwise Whole (drop n ts) numbers) (sym c.requires.0.reals_are) c.in_ok-numbers.ensures.1 in
     let read = pairwise_kept ts (places 2 0 numbers (pos 0)) (pairwise_places Whole ts numbers 2 (pos 0) long all) in
     let came = c.in-Ok.ensures in
     let fits : SFits w32 c.in-Ok.narrow = subst (SFits w32) (sym came.1) came.0 in
@@ -21,10 +21,10 @@ returns-in-Ok c =
 pub returns-in-Err : goal.returns-in-Err
 returns-in-Err c =
     let ts : List (List ℕ) = texts c.args.words.now in
-    let numbers = c.in-ok-numbers.numbers in
+    let numbers = c.in_ok-numbers.numbers in
     let numbers_long : length numbers ≡ 2 = search rules in
     let none = c.requires.0.reals_are in
-    let read : Pairwise Whole ts numbers = subst (λ n. Pairwise Whole (drop n ts) numbers) (sym none) c.in-ok-numbers.ensures.1 in
+    let read : Pairwise Whole ts numbers = subst (λ n. Pairwise Whole (drop n ts) numbers) (sym none) c.in_ok-numbers.ensures.1 in
     let long : length ts ≡ 2 = pairwise_length Whole ts numbers read ∙ numbers_long in
     let inside : 1 < length ts = omega arith in
     let strain : Whole (get_or ts 1 []) (get_or numbers 1 (pos 0)) = pairwise_get_or Whole ts numbers 1 [] (pos 0) inside read in

@@ -32,55 +32,55 @@ returns-then-words-lt2 c =
 listed_long : (ws : List (Bor (List ℕ))) (ns : List ℤ) → Pairwise Whole (texts ws) ns → length ns ≡ length ws
 listed_long ws ns h = sym (pairwise_length Whole (texts ws) ns h) ∙ length-map _ _
 
-pub slice-bounds-points-of-count : goal.slice-bounds-points-of-count
-slice-bounds-points-of-count c =
-    let read = rw c.in-Ok.is at c.in-ok-numbers.ensures in
+pub slice_bounds-points_of-count : goal.slice_bounds-points_of-count
+slice_bounds-points_of-count c =
+    let read = rw c.in-Ok.is at c.in_ok-numbers.ensures in
     let long : length (vec_items c.in-Ok.numbers) ≡ length c.args.words.now = listed_long c.args.words.now (vec_items c.in-Ok.numbers) read.1 in
     let same : length c.deref.result.now ≡ length (vec_items c.in-Ok.numbers) = ap length c.deref.ensures.value in
     omega arith
 
-pub slice-bounds-points-of-start : goal.slice-bounds-points-of-start
-slice-bounds-points-of-start c =
-    let read = rw c.in-Ok.is at c.in-ok-numbers.ensures in
+pub slice_bounds-points_of-start : goal.slice_bounds-points_of-start
+slice_bounds-points_of-start c =
+    let read = rw c.in-Ok.is at c.in_ok-numbers.ensures in
     let long : length (vec_items c.in-Ok.numbers) ≡ length c.args.words.now = listed_long c.args.words.now (vec_items c.in-Ok.numbers) read.1 in
     let same : length c.deref.result.now ≡ length (vec_items c.in-Ok.numbers) = ap length c.deref.ensures.value in
     omega arith
 
-pub points-of-requires : goal.points-of-requires
-points-of-requires c =
-    let read = rw c.in-Ok.is at c.in-ok-numbers.ensures in
+pub points_of-requires : goal.points_of-requires
+points_of-requires c =
+    let read = rw c.in-Ok.is at c.in_ok-numbers.ensures in
     let long : length (vec_items c.in-Ok.numbers) ≡ length c.args.words.now = listed_long c.args.words.now (vec_items c.in-Ok.numbers) read.1 in
     let same : length c.deref.result.now ≡ length (vec_items c.in-Ok.numbers) = ap length c.deref.ensures.value in
     rw take_rest (simp length-drop (omega arith))
 
 pub index-requires : goal.index-requires
 index-requires c =
-    let read = rw c.in-Ok.is at c.in-ok-numbers.ensures in
+    let read = rw c.in-Ok.is at c.in_ok-numbers.ensures in
     let long : length (vec_items c.in-Ok.numbers) ≡ length c.args.words.now = listed_long c.args.words.now (vec_items c.in-Ok.numbers) read.1 in
     let held : vec_len c.in-Ok.numbers ≡ length (vec_items c.in-Ok.numbers) = c.in-Ok.numbers.ok.0 in
     omega arith
 
 pub index-requires-in-Ok : goal.index-requires-in-Ok
 index-requires-in-Ok c =
-    let read = rw c.in-Ok.is at c.in-ok-numbers.ensures in
+    let read = rw c.in-Ok.is at c.in_ok-numbers.ensures in
     let long : length (vec_items c.in-Ok.numbers) ≡ length c.args.words.now = listed_long c.args.words.now (vec_items c.in-Ok.numbers) read.1 in
     let held : vec_len c.in-Ok.numbers ≡ length (vec_items c.in-Ok.numbers) = c.in-Ok.numbers.ok.0 in
     omega arith
 
-pub returns-in-ok-points : goal.returns-in-ok-points
-returns-in-ok-points c =
+pub returns-in_ok-points : goal.returns-in_ok-points
+returns-in_ok-points c =
     let ts : List (List ℕ) = texts c.args.words.now in
     let ns = vec_items c.in-Ok.numbers in
-    let read = rw c.in-Ok.is at c.in-ok-numbers.ensures in
+    let read = rw c.in-Ok.is at c.in_ok-numbers.ensures in
     let long : length ns ≡ length c.args.words.now = listed_long c.args.words.now ns read.1 in
     let enough : 2 ≤ length ns = omega arith in
-    let points : written_points (vec_items c.in-ok-points.points) ≡ drop 2 ns = c.in-ok-points.ensures ∙ take_rest c.deref.result.now 2 ∙ ap (drop 2) c.deref.ensures.value in
-    (refl, record { real_part = tt; whole_part = points_read ts ns (vec_items c.in-ok-points.points) c.index.result.now c.index-in-Ok.result.now read.1 enough c.index.ensures c.index-in-Ok.ensures points })
+    let points : written_points (vec_items c.in_ok-points.points) ≡ drop 2 ns = c.in_ok-points.ensures ∙ take_rest c.deref.result.now 2 ∙ ap (drop 2) c.deref.ensures.value in
+    (refl, record { real_part = tt; whole_part = points_read ts ns (vec_items c.in_ok-points.points) c.index.result.now c.index-in-Ok.result.now read.1 enough c.index.ensures c.index-in-Ok.ensures points })
 
 pub returns-in-Err : goal.returns-in-Err
 returns-in-Err c =
     let ts : List (List ℕ) = texts c.args.words.now in
     let long : length ts ≡ length c.args.words.now = length-map _ _ in
-    let read = c.in-ok-numbers.ensures in
+    let read = c.in_ok-numbers.ensures in
     let first : FirstOut IsWhole ts c.in-Err.place = rw c.in-Err.is at read in
     ((omega arith, omega arith), tt, (c.in-Err.place, omega arith, first))

@@ -24,7 +24,7 @@ loop-at-preserved c =
     let inside : at + 1 < length ns = omega arith in
     let f : SFits w64 (get_or ns at (pos 0)) = search rules in
     let g : SFits w64 (get_or ns (at + 1) (pos 0)) = search rules in
-    let pushed = simp to_z-of_z at c.in-ok-push.ensures.items in
+    let pushed = simp to_z-of_z at c.in_ok-push.ensures.items in
     let more = ap written_points pushed ∙ written_more (vec_items c.loop-at.points) _ in (
       more ∙ ap (λ ms. ms ++ get_or ns at (pos 0) ∷ get_or ns (at + 1) (pos 0) ∷ []) c.loop-at.invariant.0 ∙ sym (taken_more ns at inside),
       omega arith,

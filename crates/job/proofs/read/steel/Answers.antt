@@ -6,9 +6,9 @@ use Rattle.job.proofs.read.steel.Goals as goal
 
 pub returns : goal.returns
 returns c =
-    let figures = c.in-ok-figures.figures in
-    let factors = c.in-ok-figures.factors in
-    let read = c.in-ok-figures.ensures in
+    let figures = c.in_ok-figures.figures in
+    let factors = c.in_ok-figures.factors in
+    let read = c.in_ok-figures.ensures in
     let figures_long : length figures ≡ 3 = search rules in
     let factors_long : length factors ≡ 2 = search rules in (
       refl,

@@ -7,7 +7,7 @@ pub ends-first-requires : goal.ends-first-requires
 ends-first-requires g c =
     let k = c.args.kit.now in
     let f = c.ranges.number in
-    let taken = simp to_z-of_z at c.in-ok-number.ensures in
+    let taken = simp to_z-of_z at c.in_ok-number.ensures in
     let l = limits_in (g.K.Kit.laws k) c.args.number _ taken c.in-Some.limits _ c.in-Some.ensures refl (g.K.Kit.lawful k) in
     record { compression = l.0; tension = l.1 }
 
@@ -15,7 +15,7 @@ pub returns-in-Some-least : goal.returns-in-Some-least
 returns-in-Some-least g c =
     let k = c.args.kit.now in
     let f = c.ranges.number in
-    let taken = simp to_z-of_z at c.in-ok-number.ensures in
+    let taken = simp to_z-of_z at c.in_ok-number.ensures in
     let l = limits_in (g.K.Kit.laws k) c.args.number _ taken c.in-Some.limits _ c.in-Some.ensures refl (g.K.Kit.lawful k) in
     let t = c.ranges.stress in
     let t64 : SFits w64 c.args.stress = omega (arith, ints) in
@@ -25,18 +25,18 @@ returns-in-Some-least g c =
     let s : SFits w32 c.in-Some-least.strain = omega (arith, ints) in
     simp to_z-of_z (least_reached (g.K.Kit.laws k) c.args.number _ taken c.in-Some.limits _ c.in-Some.ensures refl c.args.stress _ _ (omega (arith, ints)) (omega (arith, ints)) c.in-Some-least.strain found)
 
-pub returns-in-default : goal.returns-in-default
-returns-in-default g c =
+pub returns-in_default : goal.returns-in_default
+returns-in_default g c =
     let k = c.args.kit.now in
     let f = c.ranges.number in
-    let taken = simp to_z-of_z at c.in-ok-number.ensures in
-    absurd (never_none (g.K.Kit.laws k) c.args.number _ taken c.in-default.ensures)
+    let taken = simp to_z-of_z at c.in_ok-number.ensures in
+    absurd (never_none (g.K.Kit.laws k) c.args.number _ taken c.in_default.ensures)
 
 pub returns-in-None : goal.returns-in-None
 returns-in-None g c =
     let k = c.args.kit.now in
     let f = c.ranges.number in
-    let taken = simp to_z-of_z at c.in-ok-number.ensures in
+    let taken = simp to_z-of_z at c.in_ok-number.ensures in
     let l = limits_in (g.K.Kit.laws k) c.args.number _ taken c.in-Some.limits _ c.in-Some.ensures refl (g.K.Kit.lawful k) in
     let t = c.ranges.stress in
     let t64 : SFits w64 c.args.stress = omega (arith, ints) in

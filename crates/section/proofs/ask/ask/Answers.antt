@@ -9,15 +9,15 @@ pub returns-then-curvature-gt-MOST-CURVATURE : goal.returns-then-curvature-gt-MO
 returns-then-curvature-gt-MOST-CURVATURE g c =
     let laws = g.K.Kit.laws c.args.kit.now in
     let lawful = g.K.Kit.lawful c.args.kit.now in
-    record { asked = inl (omega arith, record { number_is = refl; places_are = refl }); truths = truths laws lawful c.args.fibres.now c.requires.ranged c.args.load c.args.load-depth c.args.curvature }
+    record { asked = inl (omega arith, record { number_is = refl; places_are = refl }); truths = truths laws lawful c.args.fibres.now c.requires.ranged c.args.load c.args.load_depth c.args.curvature }
 
-pub returns-then-is-empty : goal.returns-then-is-empty
-returns-then-is-empty g c =
+pub returns-then-is_empty : goal.returns-then-is_empty
+returns-then-is_empty g c =
     let laws = g.K.Kit.laws c.args.kit.now in
     let lawful = g.K.Kit.lawful c.args.kit.now in
     record {
-      asked = inr (inl (c.if-curvature-gt-MOST-CURVATURE.false, is_bare c.args.fibres.now c.if-is-empty.ensures, record { number_is = refl; places_are = refl }));
-      truths = truths laws lawful c.args.fibres.now c.requires.ranged c.args.load c.args.load-depth c.args.curvature;
+      asked = inr (inl (c.if-curvature-gt-MOST-CURVATURE.false, is_bare c.args.fibres.now c.if-is_empty.ensures, record { number_is = refl; places_are = refl }));
+      truths = truths laws lawful c.args.fibres.now c.requires.ranged c.args.load c.args.load_depth c.args.curvature;
     }
 
 pub returns-then-high-low : goal.returns-then-high-low
@@ -25,80 +25,80 @@ returns-then-high-low g c =
     let laws = g.K.Kit.laws c.args.kit.now in
     let lawful = g.K.Kit.lawful c.args.kit.now in
     let small = c.if-curvature-gt-MOST-CURVATURE.false in
-    let some = not_bare c.args.fibres.now c.if-is-empty.ensures in
-    let r = c.row-range-range.result in
-    let sets = c.row-range-range.ensures in
-    let a = low_fits laws lawful c.args.fibres.now c.requires.ranged c.args.load c.args.load-depth c.args.curvature small some r sets in
-    let b = high_fits laws lawful c.args.fibres.now c.requires.ranged c.args.load c.args.load-depth c.args.curvature small some r sets in
-    record { asked = crossed laws lawful c.args.fibres.now c.requires.ranged c.args.load c.args.load-depth c.args.curvature small some r sets (omega (arith, ints)); truths = truths laws lawful c.args.fibres.now c.requires.ranged c.args.load c.args.load-depth c.args.curvature }
+    let some = not_bare c.args.fibres.now c.if-is_empty.ensures in
+    let r = c.row_range-range.result in
+    let sets = c.row_range-range.ensures in
+    let a = low_fits laws lawful c.args.fibres.now c.requires.ranged c.args.load c.args.load_depth c.args.curvature small some r sets in
+    let b = high_fits laws lawful c.args.fibres.now c.requires.ranged c.args.load c.args.load_depth c.args.curvature small some r sets in
+    record { asked = crossed laws lawful c.args.fibres.now c.requires.ranged c.args.load c.args.load_depth c.args.curvature small some r sets (omega (arith, ints)); truths = truths laws lawful c.args.fibres.now c.requires.ranged c.args.load c.args.load_depth c.args.curvature }
 
 pub greatest-requires : goal.greatest-requires
 greatest-requires g c =
     let laws = g.K.Kit.laws c.args.kit.now in
     let lawful = g.K.Kit.lawful c.args.kit.now in
     let small = c.if-curvature-gt-MOST-CURVATURE.false in
-    let some = not_bare c.args.fibres.now c.if-is-empty.ensures in
-    let r = c.row-range-range.result in
-    let sets = c.row-range-range.ensures in
-    let a = low_fits laws lawful c.args.fibres.now c.requires.ranged c.args.load c.args.load-depth c.args.curvature small some r sets in
-    let b = high_fits laws lawful c.args.fibres.now c.requires.ranged c.args.load c.args.load-depth c.args.curvature small some r sets in
-    record { covered = simp to_z-of_z (covered laws lawful c.args.fibres.now c.requires.ranged c.args.load c.args.load-depth c.args.curvature small some r sets) }
+    let some = not_bare c.args.fibres.now c.if-is_empty.ensures in
+    let r = c.row_range-range.result in
+    let sets = c.row_range-range.ensures in
+    let a = low_fits laws lawful c.args.fibres.now c.requires.ranged c.args.load c.args.load_depth c.args.curvature small some r sets in
+    let b = high_fits laws lawful c.args.fibres.now c.requires.ranged c.args.load c.args.load_depth c.args.curvature small some r sets in
+    record { covered = simp to_z-of_z (covered laws lawful c.args.fibres.now c.requires.ranged c.args.load c.args.load_depth c.args.curvature small some r sets) }
 
-pub returns-in-default : goal.returns-in-default
-returns-in-default g c =
+pub returns-in_default : goal.returns-in_default
+returns-in_default g c =
     let laws = g.K.Kit.laws c.args.kit.now in
     let lawful = g.K.Kit.lawful c.args.kit.now in
     let small = c.if-curvature-gt-MOST-CURVATURE.false in
-    let some = not_bare c.args.fibres.now c.if-is-empty.ensures in
-    let r = c.row-range-range.result in
-    let sets = c.row-range-range.ensures in
-    let a = low_fits laws lawful c.args.fibres.now c.requires.ranged c.args.load c.args.load-depth c.args.curvature small some r sets in
-    let b = high_fits laws lawful c.args.fibres.now c.requires.ranged c.args.load c.args.load-depth c.args.curvature small some r sets in
+    let some = not_bare c.args.fibres.now c.if-is_empty.ensures in
+    let r = c.row_range-range.result in
+    let sets = c.row_range-range.ensures in
+    let a = low_fits laws lawful c.args.fibres.now c.requires.ranged c.args.load c.args.load_depth c.args.curvature small some r sets in
+    let b = high_fits laws lawful c.args.fibres.now c.requires.ranged c.args.load c.args.load_depth c.args.curvature small some r sets in
     let wide : r.least.top ≤ℤ r.greatest.top = omega (arith, ints) in
     let load = c.ranges.load in
-    let none = simp to_z-of_z at c.in-default.ensures.found in
-    record { asked = all_above laws lawful c.args.fibres.now c.requires.ranged c.args.load c.args.load-depth c.args.curvature small some r sets wide none; truths = truths laws lawful c.args.fibres.now c.requires.ranged c.args.load c.args.load-depth c.args.curvature }
+    let none = simp to_z-of_z at c.in_default.ensures.found in
+    record { asked = all_above laws lawful c.args.fibres.now c.requires.ranged c.args.load c.args.load_depth c.args.curvature small some r sets wide none; truths = truths laws lawful c.args.fibres.now c.requires.ranged c.args.load c.args.load_depth c.args.curvature }
 
 pub least-requires : goal.least-requires
 least-requires g c =
     let laws = g.K.Kit.laws c.args.kit.now in
     let lawful = g.K.Kit.lawful c.args.kit.now in
     let small = c.if-curvature-gt-MOST-CURVATURE.false in
-    let some = not_bare c.args.fibres.now c.if-is-empty.ensures in
-    let r = c.row-range-range.result in
-    let sets = c.row-range-range.ensures in
-    let a = low_fits laws lawful c.args.fibres.now c.requires.ranged c.args.load c.args.load-depth c.args.curvature small some r sets in
-    let b = high_fits laws lawful c.args.fibres.now c.requires.ranged c.args.load c.args.load-depth c.args.curvature small some r sets in
-    record { covered = simp to_z-of_z (covered laws lawful c.args.fibres.now c.requires.ranged c.args.load c.args.load-depth c.args.curvature small some r sets) }
+    let some = not_bare c.args.fibres.now c.if-is_empty.ensures in
+    let r = c.row_range-range.result in
+    let sets = c.row_range-range.ensures in
+    let a = low_fits laws lawful c.args.fibres.now c.requires.ranged c.args.load c.args.load_depth c.args.curvature small some r sets in
+    let b = high_fits laws lawful c.args.fibres.now c.requires.ranged c.args.load c.args.load_depth c.args.curvature small some r sets in
+    record { covered = simp to_z-of_z (covered laws lawful c.args.fibres.now c.requires.ranged c.args.load c.args.load_depth c.args.curvature small some r sets) }
 
-pub returns-in-default-least : goal.returns-in-default-least
-returns-in-default-least g c =
+pub returns-in_default-least : goal.returns-in_default-least
+returns-in_default-least g c =
     let laws = g.K.Kit.laws c.args.kit.now in
     let lawful = g.K.Kit.lawful c.args.kit.now in
     let small = c.if-curvature-gt-MOST-CURVATURE.false in
-    let some = not_bare c.args.fibres.now c.if-is-empty.ensures in
-    let r = c.row-range-range.result in
-    let sets = c.row-range-range.ensures in
-    let a = low_fits laws lawful c.args.fibres.now c.requires.ranged c.args.load c.args.load-depth c.args.curvature small some r sets in
-    let b = high_fits laws lawful c.args.fibres.now c.requires.ranged c.args.load c.args.load-depth c.args.curvature small some r sets in
+    let some = not_bare c.args.fibres.now c.if-is_empty.ensures in
+    let r = c.row_range-range.result in
+    let sets = c.row_range-range.ensures in
+    let a = low_fits laws lawful c.args.fibres.now c.requires.ranged c.args.load c.args.load_depth c.args.curvature small some r sets in
+    let b = high_fits laws lawful c.args.fibres.now c.requires.ranged c.args.load c.args.load_depth c.args.curvature small some r sets in
     let wide : r.least.top ≤ℤ r.greatest.top = omega (arith, ints) in
     let load = c.ranges.load in
-    let none = simp to_z-of_z at c.in-default-least.ensures.found in
-    record { asked = all_below laws lawful c.args.fibres.now c.requires.ranged c.args.load c.args.load-depth c.args.curvature small some r sets wide none; truths = truths laws lawful c.args.fibres.now c.requires.ranged c.args.load c.args.load-depth c.args.curvature }
+    let none = simp to_z-of_z at c.in_default-least.ensures.found in
+    record { asked = all_below laws lawful c.args.fibres.now c.requires.ranged c.args.load c.args.load_depth c.args.curvature small some r sets wide none; truths = truths laws lawful c.args.fibres.now c.requires.ranged c.args.load c.args.load_depth c.args.curvature }
 
 pub moment-requires : goal.moment-requires
 moment-requires g c =
     let laws = g.K.Kit.laws c.args.kit.now in
     let lawful = g.K.Kit.lawful c.args.kit.now in
     let small = c.if-curvature-gt-MOST-CURVATURE.false in
-    let some = not_bare c.args.fibres.now c.if-is-empty.ensures in
-    let r = c.row-range-range.result in
-    let sets = c.row-range-range.ensures in
-    let a = low_fits laws lawful c.args.fibres.now c.requires.ranged c.args.load c.args.load-depth c.args.curvature small some r sets in
-    let b = high_fits laws lawful c.args.fibres.now c.requires.ranged c.args.load c.args.load-depth c.args.curvature small some r sets in
+    let some = not_bare c.args.fibres.now c.if-is_empty.ensures in
+    let r = c.row_range-range.result in
+    let sets = c.row_range-range.ensures in
+    let a = low_fits laws lawful c.args.fibres.now c.requires.ranged c.args.load c.args.load_depth c.args.curvature small some r sets in
+    let b = high_fits laws lawful c.args.fibres.now c.requires.ranged c.args.load c.args.load_depth c.args.curvature small some r sets in
     let load = c.ranges.load in
     let found = simp to_z-of_z at c.in-Some-least.ensures.found in
-    let top = covered laws lawful c.args.fibres.now c.requires.ranged c.args.load c.args.load-depth c.args.curvature small some r sets c.in-Some-least.first found.from found.to in
+    let top = covered laws lawful c.args.fibres.now c.requires.ranged c.args.load c.args.load_depth c.args.curvature small some r sets c.in-Some-least.first found.from found.to in
     let f : SFits w32 c.in-Some-least.first = omega (arith, ints) in
     record {
       gentle = small;
@@ -113,14 +113,14 @@ moment-requires-2 g c =
     let laws = g.K.Kit.laws c.args.kit.now in
     let lawful = g.K.Kit.lawful c.args.kit.now in
     let small = c.if-curvature-gt-MOST-CURVATURE.false in
-    let some = not_bare c.args.fibres.now c.if-is-empty.ensures in
-    let r = c.row-range-range.result in
-    let sets = c.row-range-range.ensures in
-    let a = low_fits laws lawful c.args.fibres.now c.requires.ranged c.args.load c.args.load-depth c.args.curvature small some r sets in
-    let b = high_fits laws lawful c.args.fibres.now c.requires.ranged c.args.load c.args.load-depth c.args.curvature small some r sets in
+    let some = not_bare c.args.fibres.now c.if-is_empty.ensures in
+    let r = c.row_range-range.result in
+    let sets = c.row_range-range.ensures in
+    let a = low_fits laws lawful c.args.fibres.now c.requires.ranged c.args.load c.args.load_depth c.args.curvature small some r sets in
+    let b = high_fits laws lawful c.args.fibres.now c.requires.ranged c.args.load c.args.load_depth c.args.curvature small some r sets in
     let load = c.ranges.load in
     let found = simp to_z-of_z at c.in-Some.ensures.found in
-    let top = covered laws lawful c.args.fibres.now c.requires.ranged c.args.load c.args.load-depth c.args.curvature small some r sets c.in-Some.last found.from found.to in
+    let top = covered laws lawful c.args.fibres.now c.requires.ranged c.args.load c.args.load_depth c.args.curvature small some r sets c.in-Some.last found.from found.to in
     let f : SFits w32 c.in-Some.last = omega (arith, ints) in
     record {
       gentle = small;
@@ -135,25 +135,25 @@ returns g c =
     let laws = g.K.Kit.laws c.args.kit.now in
     let lawful = g.K.Kit.lawful c.args.kit.now in
     let small = c.if-curvature-gt-MOST-CURVATURE.false in
-    let some = not_bare c.args.fibres.now c.if-is-empty.ensures in
-    let r = c.row-range-range.result in
-    let sets = c.row-range-range.ensures in
-    let a = low_fits laws lawful c.args.fibres.now c.requires.ranged c.args.load c.args.load-depth c.args.curvature small some r sets in
-    let b = high_fits laws lawful c.args.fibres.now c.requires.ranged c.args.load c.args.load-depth c.args.curvature small some r sets in
+    let some = not_bare c.args.fibres.now c.if-is_empty.ensures in
+    let r = c.row_range-range.result in
+    let sets = c.row_range-range.ensures in
+    let a = low_fits laws lawful c.args.fibres.now c.requires.ranged c.args.load c.args.load_depth c.args.curvature small some r sets in
+    let b = high_fits laws lawful c.args.fibres.now c.requires.ranged c.args.load c.args.load_depth c.args.curvature small some r sets in
     let load = c.ranges.load in
-    let m : SFits w64 c.moment.result = sfits_of c.moment.type-inv in
-    let n : SFits w64 c.moment-2.result = sfits_of c.moment-2.type-inv in
+    let m : SFits w64 c.moment.result = sfits_of c.moment.type_inv in
+    let n : SFits w64 c.moment-2.result = sfits_of c.moment-2.type_inv in
     let least = simp to_z-of_z at c.in-Some-least.ensures.found in
     let greatest = simp to_z-of_z at c.in-Some.ensures.found in
-    let p = covered laws lawful c.args.fibres.now c.requires.ranged c.args.load c.args.load-depth c.args.curvature small some r sets c.in-Some-least.first least.from least.to in
-    let q = covered laws lawful c.args.fibres.now c.requires.ranged c.args.load c.args.load-depth c.args.curvature small some r sets c.in-Some.last greatest.from greatest.to in
+    let p = covered laws lawful c.args.fibres.now c.requires.ranged c.args.load c.args.load_depth c.args.curvature small some r sets c.in-Some-least.first least.from least.to in
+    let q = covered laws lawful c.args.fibres.now c.requires.ranged c.args.load c.args.load_depth c.args.curvature small some r sets c.in-Some.last greatest.from greatest.to in
     let f : SFits w32 c.in-Some-least.first = omega (arith, ints) in
     let l : SFits w32 c.in-Some.last = omega (arith, ints) in
-    let taken : ℤ → ℤ → ℤ = λ load top. moment laws c.args.fibres.now load c.args.load-depth c.args.curvature top in
+    let taken : ℤ → ℤ → ℤ = λ load top. moment laws c.args.fibres.now load c.args.load_depth c.args.curvature top in
     record {
-      asked = simp to_z-of_z (between laws lawful c.args.fibres.now c.requires.ranged c.args.load c.args.load-depth c.args.curvature small some r sets
+      asked = simp to_z-of_z (between laws lawful c.args.fibres.now c.requires.ranged c.args.load c.args.load_depth c.args.curvature small some r sets
           (record { first = c.in-Some-least.first; last = c.in-Some.last; first_moment = c.moment.result; last_moment = c.moment-2.result })
           least greatest (c.moment.ensures ∙ ap₂ taken (to_z-of_z w64 _ load) (to_z-of_z w32 _ f))
           (c.moment-2.ensures ∙ ap₂ taken (to_z-of_z w64 _ load) (to_z-of_z w32 _ l)));
-      truths = truths laws lawful c.args.fibres.now c.requires.ranged c.args.load c.args.load-depth c.args.curvature;
+      truths = truths laws lawful c.args.fibres.now c.requires.ranged c.args.load c.args.load_depth c.args.curvature;
     }

@@ -11,8 +11,8 @@ pub returns : goal.returns
 returns g c =
     let laws = g.K.Kit.laws c.args.kit.now in
     let f = c.args.fibre.now in
-    let e : c.unwrap-or.result ≡ limits_of (law_of laws f) =
-    c.unwrap-or.ensures ∙ ap (λ o. unwrap_or o (record { compression = 1; tension = 1 })) c.limits.ensures ∙ limits_are (reached laws f.material) in
+    let e : c.unwrap_or.result ≡ limits_of (law_of laws f) =
+    c.unwrap_or.ensures ∙ ap (λ o. unwrap_or o (record { compression = 1; tension = 1 })) c.limits.ensures ∙ limits_are (reached laws f.material) in
     let law = law_of_lawful laws (g.K.Kit.lawful c.args.kit.now) f in
     record {
       compression = ap (λ (l : Limits). l.compression) e;

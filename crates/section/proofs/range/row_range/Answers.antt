@@ -4,17 +4,17 @@ use Rattle.section.proofs.Summing.{item_ranged}
 use Rattle.section.proofs.Highest.{narrowed_first, narrowed_more, narrowed_last}
 use Rattle.section.proofs.range.row_range.Goals as goal
 
-pub fibre-range-range-requires : goal.fibre-range-range-requires
-fibre-range-range-requires g c = record { gentle = c.requires.gentle; ranged = item_ranged c.args.fibres.now c.requires.ranged 0 _ c.requires.some }
+pub fibre_range-range-requires : goal.fibre_range-range-requires
+fibre_range-range-requires g c = record { gentle = c.requires.gentle; ranged = item_ranged c.args.fibres.now c.requires.ranged 0 _ c.requires.some }
 
-pub fibre-range-next-requires : goal.fibre-range-next-requires
-fibre-range-next-requires g c =
+pub fibre_range-next-requires : goal.fibre_range-next-requires
+fibre_range-next-requires g c =
     record { gentle = c.requires.gentle; ranged = item_ranged c.args.fibres.now c.requires.ranged c.loop-position.position _ c.loop-position-test.true }
 
 pub loop-position-init : goal.loop-position-init
 loop-position-init g c =
-    let e = c.fibre-range-range.ensures in
-    narrowed_first (g.K.Kit.laws c.args.kit.now) c.args.fibres.now c.args.curvature 0 _ c.fibre-range-range.result
+    let e = c.fibre_range-range.ensures in
+    narrowed_first (g.K.Kit.laws c.args.kit.now) c.args.fibres.now c.args.curvature 0 _ c.fibre_range-range.result
     (record {
       stands = slice_get-get_or c.args.fibres.now 0 _ c.requires.some;
       least_is = e.least;
@@ -25,8 +25,8 @@ loop-position-init g c =
 
 pub loop-position-preserved : goal.loop-position-preserved
 loop-position-preserved g c =
-    let e = c.fibre-range-next.ensures in
-    narrowed_more (g.K.Kit.laws c.args.kit.now) c.args.fibres.now c.args.curvature c.loop-position.position _ c.fibre-range-next.result
+    let e = c.fibre_range-next.ensures in
+    narrowed_more (g.K.Kit.laws c.args.kit.now) c.args.fibres.now c.args.curvature c.loop-position.position _ c.fibre_range-next.result
     (record {
       stands = slice_get-get_or c.args.fibres.now c.loop-position.position _ c.loop-position-test.true;
       least_is = e.least;

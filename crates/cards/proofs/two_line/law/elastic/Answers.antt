@@ -4,8 +4,8 @@ use Rattle.laws.specs.TwoLine.{elastic}
 use Rattle.laws.proofs.Whole.{scale_fits}
 use Rattle.cards.proofs.two_line.law.elastic.Goals as goal
 
-pub overflow-mul-product : goal.overflow-mul-product
-overflow-mul-product c =
+pub overflow_mul-product : goal.overflow_mul-product
+overflow_mul-product c =
     let f = c.ranges.strain in
     let e : SFits w64 c.args.strain = omega (arith, ints) in
     let m : c.args.modulus < 2 ^ 63 = omega arith in

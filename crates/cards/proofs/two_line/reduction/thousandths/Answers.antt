@@ -1,8 +1,8 @@
 use Rattle.std.proofs.Common.{◌*◌, ◌≤◌, refl, mul-le-mul_right, arith}
 use Rattle.cards.proofs.two_line.reduction.thousandths.Goals as goal
 
-pub overflow-cast-result-3 : goal.overflow-cast-result-3
-overflow-cast-result-3 c =
+pub overflow_cast-result-3 : goal.overflow_cast-result-3
+overflow_cast-result-3 c =
     let h : c.args.factor * c.args.n ≤ 850 * c.args.n = mul-le-mul_right c.args.n c.requires.0.1 in
     omega arith
 

@@ -19,7 +19,7 @@ returns-then-number-count g c =
     let l = length-map xs g.L.Law.meaning in
     let r = reached_item g.L.Law.meaning xs c.args.number c.index.result.now (omega arith) (omega arith) c.index.ensures in
     let f = c.ranges.strain in
-    let s : SFits w32 c.stress.result = sfits_of c.stress.type-inv in
+    let s : SFits w32 c.stress.result = sfits_of c.stress.type_inv in
     simp to_z-of_z (ap Some (simp to_z-of_z at c.stress.ensures) ∙ sym (ap (option_map (stress_of c.args.strain)) r))
 
 pub returns-else-number-count : goal.returns-else-number-count

@@ -8,10 +8,16 @@ use Rattle.laws.proofs.point_law.PointLaw.new.Goals as goal
 sound : {seen points : List Point} → seen ≡ points → All Sound (after None seen) → All Sound (after None points)
 sound e h = let P : List Point → Type 0 = λ ps. All Sound (after None ps) in subst P e h
 
-pub invariant-of-result : goal.invariant-of-result
-invariant-of-result c =
+pub invariant_of-result : goal.invariant_of-result
+invariant_of-result c =
     let all = sound c.deref.ensures.value c.in-None.ensures in
-    (search rules, (search rules, (all_pass_from_all _ all, (c.in-Some-Some.ensures.2, (c.in-Some-Some.ensures'.2, tt)))))
+    record {
+      enough = search rules;
+      few = search rules;
+      points_sound = all_pass_from_all _ all;
+      shortest_in = c.in-Some-Some.ensures.2;
+      longest_in = c.in-Some-Some.ensures'.2;
+    }
 
 pub returns-in-None : goal.returns-in-None
 returns-in-None c =

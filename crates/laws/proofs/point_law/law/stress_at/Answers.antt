@@ -16,7 +16,7 @@ interpolate-requires c =
 pub returns-then-strain-point : goal.returns-then-strain-point
 returns-then-strain-point c =
     let f = c.ranges.strain in
-    let r : SFits w64 c.interpolate.result = sfits_of c.interpolate.type-inv in
+    let r : SFits w64 c.interpolate.result = sfits_of c.interpolate.type_inv in
     let known = simp to_z-of_z at c.loop-point.invariant in
     let on_line = simp to_z-of_z at c.interpolate.ensures in
     simp to_z-of_z (on_line ∙ sym (here_line _ _ _ c.loop-point-test.true known f c.if-strain-point.true))

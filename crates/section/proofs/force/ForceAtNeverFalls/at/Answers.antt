@@ -14,11 +14,11 @@ pull-sum-requires g c =
     let x = c.ranges.point in
     record { gentle = s.gentle; within = simp to_z-of_z c.requires; ranged = item_ranged s.fibres.now s.ranged _ _ c.loop-fibre-test.true }
 
-pub overflow-add-sum : goal.overflow-add-sum
-overflow-add-sum g c =
+pub overflow_add-sum : goal.overflow_add-sum
+overflow_add-sum g c =
     let s = c.args.self.now in
     let x = c.ranges.point in
-    let o : SFits w64 c.pull-sum.result = sfits_of c.pull-sum.type-inv in
+    let o : SFits w64 c.pull-sum.result = sfits_of c.pull-sum.type_inv in
     let k = simp to_z-of_z at c.loop-fibre.invariant in
     let e = simp to_z-of_z at c.pull-sum.ensures in
     simp to_z-of_z (summed_fits _ (pull_small (g.K.Kit.laws s.kit.now) (g.K.Kit.lawful s.kit.now) s.curvature s.gentle c.args.point c.requires)
@@ -28,7 +28,7 @@ pub loop-fibre-preserved : goal.loop-fibre-preserved
 loop-fibre-preserved g c =
     let s = c.args.self.now in
     let x = c.ranges.point in
-    let o : SFits w64 c.pull-sum.result = sfits_of c.pull-sum.type-inv in
+    let o : SFits w64 c.pull-sum.result = sfits_of c.pull-sum.type_inv in
     let k = simp to_z-of_z at c.loop-fibre.invariant in
     let e = simp to_z-of_z at c.pull-sum.ensures in
     let each = pull_small (g.K.Kit.laws s.kit.now) (g.K.Kit.lawful s.kit.now) s.curvature s.gentle c.args.point c.requires in
