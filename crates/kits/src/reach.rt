@@ -11,7 +11,7 @@ use search::{NeverFalls, least};
 
 // A number that a user writes, as the kit takes it; refused by 8 where it reaches no law.
 pub fn law_number<K: Kit>(kit: &K, number: i64) -> Result<u8, Refusal>
-    ensures { MatchResult result (NumberTaken (laws kit.now) number) (NumberRefused (laws kit.now) number) }
+    ensures { MatchResult result (NumberTaken (K.laws kit.now) number) (NumberRefused (K.laws kit.now) number) }
 {
     if 0 <= number && number < kit.count() as i64 {
         Ok(number as u8)
@@ -52,7 +52,7 @@ fn ends(limits: Limits) -> (i32, i32)
 // The least strain within the limits of the law at which its stress is not below the given one; psi and nano.
 // Refused by 8 where no law has the number, then by 16 where there is no such strain.
 pub fn reach<K: Kit>(kit: &K, number: i64, stress: i32) -> Result<i32, Refusal>
-    ensures { Reaches (laws kit.now) number stress result }
+    ensures { Reaches (K.laws kit.now) number stress result }
 {
     let number = law_number(kit, number)? as usize;
     let Some(limits) = kit.limits(number) else {

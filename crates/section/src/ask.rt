@@ -27,8 +27,8 @@ pub(crate) fn ask<K: Kit>(
     requires ranged { T (all_ranged fibres.now) }
     requires few { length fibres.now ≤ 512 }
     requires loaded { LoadRanged load load_depth }
-    ensures asked { Asked (laws kit.now) fibres.now load load_depth curvature result }
-    ensures truths { TruthsOf (laws kit.now) fibres.now load load_depth curvature }
+    ensures asked { Asked (K.laws kit.now) fibres.now load load_depth curvature result }
+    ensures truths { TruthsOf (K.laws kit.now) fibres.now load load_depth curvature }
 {
     if curvature > MOST_CURVATURE {
         return Err(Refusal::TooCurved);

@@ -23,7 +23,7 @@ fn pull<K: Kit>(kit: &K, curvature: u32, top: i32, fibre: &Fibre) -> i64
     requires gentle { curvature ≤ 65535 }
     requires within { TopStrain top }
     requires ranged { Ranged fibre.now }
-    ensures { result ≡ pull_of (laws kit.now) curvature top fibre.now }
+    ensures { result ≡ pull_of (K.laws kit.now) curvature top fibre.now }
 {
     let stress = kit
         .stress(fibre.material as usize, strain(curvature, top, fibre))
@@ -63,7 +63,7 @@ fn turn<K: Kit>(kit: &K, curvature: u32, top: i32, fibre: &Fibre) -> i64
     requires gentle { curvature ≤ 65535 }
     requires within { TopStrain top }
     requires ranged { Ranged fibre.now }
-    ensures { result ≡ (pull_of (laws kit.now) curvature top fibre.now *ℤ pos fibre.now.depth) }
+    ensures { result ≡ (pull_of (K.laws kit.now) curvature top fibre.now *ℤ pos fibre.now.depth) }
 {
     pull(kit, curvature, top, fibre) * fibre.depth as i64
 }
@@ -82,7 +82,7 @@ pub(crate) fn moment<K: Kit>(
     requires ranged { T (all_ranged fibres.now) }
     requires few { length fibres.now ≤ 512 }
     requires loaded { LoadRanged load load_depth }
-    ensures { result ≡ moment_of (laws kit.now) fibres.now load load_depth curvature top }
+    ensures { result ≡ moment_of (K.laws kit.now) fibres.now load load_depth curvature top }
 {
     let mut sum = 0;
     for fibre in fibres {

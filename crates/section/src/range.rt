@@ -26,8 +26,8 @@ pub(crate) struct Range {
 
 // The limits of the law of a fibre.
 fn limits_of<K: Kit>(kit: &K, fibre: &Fibre) -> Limits
-    ensures compression { result.compression ≡ (law_of (laws kit.now) fibre.now).compression }
-    ensures tension { result.tension ≡ (law_of (laws kit.now) fibre.now).tension }
+    ensures compression { result.compression ≡ (law_of (K.laws kit.now) fibre.now).compression }
+    ensures tension { result.tension ≡ (law_of (K.laws kit.now) fibre.now).tension }
     ensures within { Limit result.compression × Limit result.tension }
 {
     kit.limits(fibre.material as usize).unwrap_or(Limits {
@@ -40,8 +40,8 @@ fn limits_of<K: Kit>(kit: &K, fibre: &Fibre) -> Limits
 fn fibre_range<K: Kit>(kit: &K, curvature: u32, fibre: &Fibre, position: u16) -> Range
     requires gentle { curvature ≤ 65535 }
     requires ranged { Ranged fibre.now }
-    ensures least { result.least.top ≡ least_for (laws kit.now) curvature fibre.now }
-    ensures greatest { result.greatest.top ≡ greatest_for (laws kit.now) curvature fibre.now }
+    ensures least { result.least.top ≡ least_for (K.laws kit.now) curvature fibre.now }
+    ensures greatest { result.greatest.top ≡ greatest_for (K.laws kit.now) curvature fibre.now }
     ensures places { (result.least.fibre ≡ position) × (result.greatest.fibre ≡ position) }
 {
     let limits = limits_of(kit, fibre);
@@ -83,7 +83,7 @@ pub(crate) fn row_range<K: Kit>(kit: &K, fibres: &[Fibre], curvature: u32) -> Ra
     requires ranged { T (all_ranged fibres.now) }
     requires some { 1 ≤ length fibres.now }
     requires few { length fibres.now ≤ 512 }
-    ensures { SetsEnds (laws kit.now) fibres.now curvature result }
+    ensures { SetsEnds (K.laws kit.now) fibres.now curvature result }
 {
     let mut range = fibre_range(kit, curvature, &fibres[0], 0);
     for position in 1..fibres.len() {

@@ -7,17 +7,17 @@ use Rattle.cards.proofs.Ranges.{whole_casts, whole_exact, whole_bounded}
 use Rattle.cards.proofs.figures.whole.Goals as goal
 
 -- both tests passed
-inside : (c : goal.After-row-known·1) → within c.args.figure c.args.written ≡ true
+inside : (c : goal.After-row_known-1) → within c.args.figure c.args.written ≡ true
 inside c =
     ap (λ (r : Range). le r.least c.args.written && le c.args.written r.most) (sym c.range_of-least.ensures)
     ∙ rw (c.if-least-written.true, c.if-written-most.true)
 
 -- what was rounded is the product of the definition
-rounded : (c : goal.After-row-known·1) → c.round.result ≡ float_round binary64 (mul binary64 c.args.written (range c.args.figure).scale)
+rounded : (c : goal.After-row_known-1) → c.round.result ≡ float_round binary64 (mul binary64 c.args.written (range c.args.figure).scale)
 rounded c = c.round.ensures ∙ ap (λ (r : Range). float_round binary64 (mul binary64 c.args.written r.scale)) c.range_of-least.ensures
 
-pub float-to-int-result : goal.float-to-int-result
-float-to-int-result c =
+pub float_to_int-result : goal.float_to_int-result
+float_to_int-result c =
     let F : Float → Type 0 = λ v. T (in_unsigned binary64 32 v) in
     subst F (sym (rounded c)) (whole_casts c.args.figure c.args.written (subst T (sym (inside c)) tt))
 

@@ -5,8 +5,8 @@ use Rattle.section.specs.Fibres.{moment}
 use Rattle.section.proofs.Asking.{is_bare, not_bare, truths, low_fits, high_fits, covered, crossed, all_above, all_below, between}
 use Rattle.section.proofs.ask.ask.Goals as goal
 
-pub returns-then-curvature-gt-MOST-CURVATURE : goal.returns-then-curvature-gt-MOST-CURVATURE
-returns-then-curvature-gt-MOST-CURVATURE g c =
+pub returns-then-curvature-gt-MOST_CURVATURE : goal.returns-then-curvature-gt-MOST_CURVATURE
+returns-then-curvature-gt-MOST_CURVATURE g c =
     let laws = g.K.Kit.laws c.args.kit.now in
     let lawful = g.K.Kit.lawful c.args.kit.now in
     record { asked = inl (omega arith, record { number_is = refl; places_are = refl }); truths = truths laws lawful c.args.fibres.now c.requires.ranged c.args.load c.args.load_depth c.args.curvature }
@@ -16,7 +16,7 @@ returns-then-is_empty g c =
     let laws = g.K.Kit.laws c.args.kit.now in
     let lawful = g.K.Kit.lawful c.args.kit.now in
     record {
-      asked = inr (inl (c.if-curvature-gt-MOST-CURVATURE.false, is_bare c.args.fibres.now c.if-is_empty.ensures, record { number_is = refl; places_are = refl }));
+      asked = inr (inl (c.if-curvature-gt-MOST_CURVATURE.false, is_bare c.args.fibres.now c.if-is_empty.ensures, record { number_is = refl; places_are = refl }));
       truths = truths laws lawful c.args.fibres.now c.requires.ranged c.args.load c.args.load_depth c.args.curvature;
     }
 
@@ -24,7 +24,7 @@ pub returns-then-high-low : goal.returns-then-high-low
 returns-then-high-low g c =
     let laws = g.K.Kit.laws c.args.kit.now in
     let lawful = g.K.Kit.lawful c.args.kit.now in
-    let small = c.if-curvature-gt-MOST-CURVATURE.false in
+    let small = c.if-curvature-gt-MOST_CURVATURE.false in
     let some = not_bare c.args.fibres.now c.if-is_empty.ensures in
     let r = c.row_range-range.result in
     let sets = c.row_range-range.ensures in
@@ -36,7 +36,7 @@ pub greatest-requires : goal.greatest-requires
 greatest-requires g c =
     let laws = g.K.Kit.laws c.args.kit.now in
     let lawful = g.K.Kit.lawful c.args.kit.now in
-    let small = c.if-curvature-gt-MOST-CURVATURE.false in
+    let small = c.if-curvature-gt-MOST_CURVATURE.false in
     let some = not_bare c.args.fibres.now c.if-is_empty.ensures in
     let r = c.row_range-range.result in
     let sets = c.row_range-range.ensures in
@@ -48,7 +48,7 @@ pub returns-in_default : goal.returns-in_default
 returns-in_default g c =
     let laws = g.K.Kit.laws c.args.kit.now in
     let lawful = g.K.Kit.lawful c.args.kit.now in
-    let small = c.if-curvature-gt-MOST-CURVATURE.false in
+    let small = c.if-curvature-gt-MOST_CURVATURE.false in
     let some = not_bare c.args.fibres.now c.if-is_empty.ensures in
     let r = c.row_range-range.result in
     let sets = c.row_range-range.ensures in
@@ -63,7 +63,7 @@ pub least-requires : goal.least-requires
 least-requires g c =
     let laws = g.K.Kit.laws c.args.kit.now in
     let lawful = g.K.Kit.lawful c.args.kit.now in
-    let small = c.if-curvature-gt-MOST-CURVATURE.false in
+    let small = c.if-curvature-gt-MOST_CURVATURE.false in
     let some = not_bare c.args.fibres.now c.if-is_empty.ensures in
     let r = c.row_range-range.result in
     let sets = c.row_range-range.ensures in
@@ -75,7 +75,7 @@ pub returns-in_default-least : goal.returns-in_default-least
 returns-in_default-least g c =
     let laws = g.K.Kit.laws c.args.kit.now in
     let lawful = g.K.Kit.lawful c.args.kit.now in
-    let small = c.if-curvature-gt-MOST-CURVATURE.false in
+    let small = c.if-curvature-gt-MOST_CURVATURE.false in
     let some = not_bare c.args.fibres.now c.if-is_empty.ensures in
     let r = c.row_range-range.result in
     let sets = c.row_range-range.ensures in
@@ -90,7 +90,7 @@ pub moment-requires : goal.moment-requires
 moment-requires g c =
     let laws = g.K.Kit.laws c.args.kit.now in
     let lawful = g.K.Kit.lawful c.args.kit.now in
-    let small = c.if-curvature-gt-MOST-CURVATURE.false in
+    let small = c.if-curvature-gt-MOST_CURVATURE.false in
     let some = not_bare c.args.fibres.now c.if-is_empty.ensures in
     let r = c.row_range-range.result in
     let sets = c.row_range-range.ensures in
@@ -112,7 +112,7 @@ pub moment-requires-2 : goal.moment-requires-2
 moment-requires-2 g c =
     let laws = g.K.Kit.laws c.args.kit.now in
     let lawful = g.K.Kit.lawful c.args.kit.now in
-    let small = c.if-curvature-gt-MOST-CURVATURE.false in
+    let small = c.if-curvature-gt-MOST_CURVATURE.false in
     let some = not_bare c.args.fibres.now c.if-is_empty.ensures in
     let r = c.row_range-range.result in
     let sets = c.row_range-range.ensures in
@@ -134,7 +134,7 @@ pub returns : goal.returns
 returns g c =
     let laws = g.K.Kit.laws c.args.kit.now in
     let lawful = g.K.Kit.lawful c.args.kit.now in
-    let small = c.if-curvature-gt-MOST-CURVATURE.false in
+    let small = c.if-curvature-gt-MOST_CURVATURE.false in
     let some = not_bare c.args.fibres.now c.if-is_empty.ensures in
     let r = c.row_range-range.result in
     let sets = c.row_range-range.ensures in

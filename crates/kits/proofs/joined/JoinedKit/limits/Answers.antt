@@ -10,8 +10,8 @@ returns-then-number-first g c =
     let r = reached_first (g.First.Kit.laws s.0) (g.Second.Kit.laws s.1) c.args.number (omega arith) in
     c.limits.ensures ∙ sym (ap (option_map limits_of) r)
 
-pub returns-then-number-lt-MOST-LAWS : goal.returns-then-number-lt-MOST-LAWS
-returns-then-number-lt-MOST-LAWS g c =
+pub returns-then-number-lt-MOST_LAWS : goal.returns-then-number-lt-MOST_LAWS
+returns-then-number-lt-MOST_LAWS g c =
     let s = c.args.self.now in
     let r = reached_second (g.First.Kit.laws s.0) (g.Second.Kit.laws s.1) c.args.number _ (omega arith) (omega arith) in
-    c.limits-then-number-lt-MOST-LAWS.ensures ∙ sym (ap (option_map limits_of) r)
+    c.limits-then-number-lt-MOST_LAWS.ensures ∙ sym (ap (option_map limits_of) r)

@@ -13,10 +13,10 @@ returns-then-number-first g c =
     let r = reached_first (g.First.Kit.laws s.0) (g.Second.Kit.laws s.1) c.args.number (omega arith) in
     e ∙ sym (ap (option_map (stress_of c.args.strain)) r)
 
-pub returns-then-number-lt-MOST-LAWS : goal.returns-then-number-lt-MOST-LAWS
-returns-then-number-lt-MOST-LAWS g c =
+pub returns-then-number-lt-MOST_LAWS : goal.returns-then-number-lt-MOST_LAWS
+returns-then-number-lt-MOST_LAWS g c =
     let s = c.args.self.now in
     let f = c.ranges.strain in
-    let e = simp to_z-of_z at c.stress-then-number-lt-MOST-LAWS.ensures in
+    let e = simp to_z-of_z at c.stress-then-number-lt-MOST_LAWS.ensures in
     let r = reached_second (g.First.Kit.laws s.0) (g.Second.Kit.laws s.1) c.args.number _ (omega arith) (omega arith) in
     e ∙ sym (ap (option_map (stress_of c.args.strain)) r)
