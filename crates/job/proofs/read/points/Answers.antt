@@ -67,15 +67,15 @@ index-requires-in-Ok c =
     let held : vec_len c.in-Ok.numbers ≡ length (vec_items c.in-Ok.numbers) = c.in-Ok.numbers.ok.0 in
     omega arith
 
-pub returns-in_ok-points : goal.returns-in_ok-points
-returns-in_ok-points c =
+pub returns-in_ok-points-in-Ok : goal.returns-in_ok-points-in-Ok
+returns-in_ok-points-in-Ok c =
     let ts : List (List ℕ) = texts c.args.words.now in
     let ns = vec_items c.in-Ok.numbers in
     let read = rw c.in-Ok.is at c.in_ok-numbers.ensures in
     let long : length ns ≡ length c.args.words.now = listed_long c.args.words.now ns read.1 in
     let enough : 2 ≤ length ns = omega arith in
-    let points : written_points (vec_items c.in_ok-points.points) ≡ drop 2 ns = c.in_ok-points.ensures ∙ take_rest c.deref.result.now 2 ∙ ap (drop 2) c.deref.ensures.value in
-    (refl, record { real_part = tt; whole_part = points_read ts ns (vec_items c.in_ok-points.points) c.index.result.now c.index-in-Ok.result.now read.1 enough c.index.ensures c.index-in-Ok.ensures points })
+    let points : written_points (vec_items c.in_ok-points-in-Ok.points) ≡ drop 2 ns = c.in_ok-points-in-Ok.ensures ∙ take_rest c.deref.result.now 2 ∙ ap (drop 2) c.deref.ensures.value in
+    (refl, record { real_part = tt; whole_part = points_read ts ns (vec_items c.in_ok-points-in-Ok.points) c.index.result.now c.index-in-Ok.result.now read.1 enough c.index.ensures c.index-in-Ok.ensures points })
 
 pub returns-in-Err : goal.returns-in-Err
 returns-in-Err c =

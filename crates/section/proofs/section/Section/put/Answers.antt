@@ -34,7 +34,7 @@ invariant_of-self g c =
     let fibre = fibre_cast c.args.depth c.args.area c.args.material c.args.initial figures_in c.in-Ok.number c.ranges.depth c.ranges.area c.ranges.initial byte.1 in
     let items = c.push_reserved.ensures.items ∙ ap (λ (x : Fibre). vec_items row.fibres ++ x ∷ []) fibre in
     let in_range = figures_ranged c.args.depth c.args.area c.args.material c.args.initial figures_in in
-    (search rules, (search rules, (ranged_put (vec_items row.fibres) (vec_items c.push_reserved.new.self) _ items row.ranged in_range, tt)))
+    record { room = search rules; few = search rules; ranged = ranged_put (vec_items row.fibres) (vec_items c.push_reserved.new.self) _ items row.ranged in_range }
 
 pub returns : goal.returns
 returns g c =
