@@ -1,5 +1,5 @@
 -- Orders of whole numbers under products, quotients and bounds.
-use Rattle.std.proofs.Common.{◌≡◌, ℕ, zero, suc, ◌+◌, ◌*◌, ◌/◌, ◌<◌, ◌≤◌, ℤ, pos, negsuc, ◌*ℤ◌, neg_ℤ, ◌≤ℤ◌, ap, mul-le-mul_left, mul-add, arith, w32, w64, SFits}
+use Rattle.std.proofs.Common.{◌≡◌, ℕ, ◌*◌, ◌≤◌, ℤ, pos, negsuc, ◌*ℤ◌, neg_ℤ, ◌≤ℤ◌, ap, mul-le-mul_left, mul-add, arith, w32, w64, SFits}
 use lib.Signed.{quot_z}
 use borrow.Author.Differences.{up, down, le_out, at_most_in, neg_is, product_is}
 use Rattle.std.specs.Int.{int_max, int_min}

@@ -1,4 +1,4 @@
-use Rattle.std.proofs.Common.{◌≡◌, length, take, vec_items}
+use Rattle.std.proofs.Common.{take, vec_items}
 use Rattle.std.specs.List.{AllByRecursion as All}
 use Rattle.words.specs.Words.{texts}
 use Rattle.job.specs.Numbers.{Pairwise}

@@ -1,8 +1,6 @@
-use Rattle.std.proofs.Common.{◌≡◌, ℕ, ◌<◌, ◌≤◌, List, [], ◌∷◌, length, get_or, take, drop, ℤ, vec_items, vec_len, sym, refl, ap, ◌∙◌, subst, arith, w64, SFits, to_z, of_z, Bor, rules, MatchResult}
+use Rattle.std.proofs.Common.{◌≡◌, ℕ, ◌≤◌, List, [], ◌∷◌, length, get_or, drop, ℤ, vec_items, vec_len, sym, refl, ap, ◌∙◌, arith, w64, to_z, of_z, Bor}
 use lib.ListN.{length-map}
-use Rattle.std.specs.List.{AllByRecursion as All}
 use Rattle.std.proofs.lemmas.List.{length-drop, take_rest}
-use Rattle.std.proofs.lemmas.Int.{to_z-of_z}
 use Rattle.words.specs.Words.{texts}
 use Rattle.refusal.specs.First.{FirstOut}
 use Rattle.laws.specs.declared.point.Point.{Point}

@@ -1,4 +1,4 @@
-use Rattle.std.proofs.Common.{◌≡◌, ℕ, List, [], ◌∷◌, length, sym, refl, ap, subst, arith}
+use Rattle.std.proofs.Common.{sym, refl, ap, subst}
 use Rattle.std.proofs.lemmas.List.{nil_from_length}
 use Rattle.words.specs.Words.{texts}
 use Rattle.job.specs.declared.fault.Fault.TheVariants.{Unknown}

@@ -1,4 +1,4 @@
-use Rattle.std.proofs.Common.{◌≡◌, sym, refl, ap, ◌∙◌, subst, inl, inr, arith, w32, w64, SFits}
+use Rattle.std.proofs.Common.{refl, inr, arith, w32, w64, SFits}
 use Rattle.std.proofs.lemmas.Int.{ints, to_z-of_z}
 use Rattle.kits.proofs.Reaching.{never_none, limits_in, least_reached, nowhere_reached}
 use Rattle.kits.proofs.reach.reach.Goals as goal

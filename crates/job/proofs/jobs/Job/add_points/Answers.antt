@@ -1,4 +1,4 @@
-use Rattle.std.proofs.Common.{◌≡◌, length, vec_items, sym, refl, ap, ◌∙◌, inl}
+use Rattle.std.proofs.Common.{◌≡◌, length, vec_items, ap, ◌∙◌, inl}
 use Rattle.std.proofs.lemmas.Int.{to_z-of_z}
 use Rattle.job.specs.declared.printed.Answer.TheVariants.{Points}
 use Rattle.job.specs.declared.printed.Printed.TheVariants.{Answered}

@@ -1,4 +1,4 @@
-use Rattle.std.proofs.Common.{◌≡◌, ℕ, List, [], ℤ, pos, negsuc, nat_abs, Some, None, vec_items, Option, sym, refl, ap, ◌∙◌, subst, w32, SFits, to_z, of_z, rules}
+use Rattle.std.proofs.Common.{◌≡◌, ℕ, List, ℤ, pos, negsuc, nat_abs, Some, None, vec_items, Option, sym, refl, ap, ◌∙◌, subst, w32, SFits, to_z, of_z, rules}
 use Rattle.std.specs.Int.{FitsUnsignedBits}
 use Rattle.std.specs.Option.{option_map}
 use Rattle.std.proofs.lemmas.Int.{to_z-of_z}
