@@ -1,6 +1,6 @@
 -- What a check and a reduction make of a card, and what they refuse.
 use Rattle.std.specs.Prelude.{◌≡◌, ℕ, ◌*◌, ◌/◌, ◌≤◌, T, List, [], ◌∷◌, map, ℤ, pos, ◌≤ℤ◌, unsigned_abs, Float}
-use Rattle.std.specs.List.{AllByRecursion as All}
+use Rattle.std.specs.List.{AllByRecursion}
 use Rattle.refusal.specs.First.{FirstOut}
 use Rattle.refusal.specs.Refusals.{Says}
 use Rattle.refusal.specs.declared.Refusal.{Refusal}
@@ -61,7 +61,7 @@ rounded f = (f.0, whole f.0 f.1)
 
 -- every figure is within its range, and became its whole number
 pub record Checked (written : List (Figure × Float)) (checked : List (Figure × ℕ)) : Type 0 where
-  pub within : All Within written
+  pub within : AllByRecursion Within written
   pub value : checked ≡ map rounded written
 
 -- refused by 1 with the place of the first figure that is not within its range

@@ -1,6 +1,6 @@
 -- Lists that are related place by place.
 use Rattle.std.proofs.Common.{◌≡◌, ℕ, zero, suc, ◌+◌, ◌<◌, List, [], ◌∷◌, ◌++◌, map, length, get_or, take, drop, set, ℤ, sym, refl, ap, ◌∙◌, subst, add-one, arith, w64, SFits, to_z, of_z}
-use Rattle.std.specs.List.{AllByRecursion as All}
+use Rattle.std.specs.List.{AllByRecursion}
 use Rattle.std.proofs.lemmas.List.{take_more, take_more_set, drop_all, drop_more}
 use Rattle.std.proofs.lemmas.Int.{to_z-of_z}
 use Rattle.job.specs.Numbers.{Pairwise, Whole}
@@ -48,7 +48,7 @@ pairwise_length R [] (y ∷ ys) h = absurd h
 pairwise_length R (x ∷ xs) [] h = absurd h
 pairwise_length R (x ∷ xs) (y ∷ ys) h = ap suc (pairwise_length R xs ys h.1)
 
-pub pairwise_all : {X Y : Type 0} (R : X → Y → Type 0) (P : X → Type 0) → ((x : X) (y : Y) → R x y → P x) → (xs : List X) (ys : List Y) → Pairwise R xs ys → All P xs
+pub pairwise_all : {X Y : Type 0} (R : X → Y → Type 0) (P : X → Type 0) → ((x : X) (y : Y) → R x y → P x) → (xs : List X) (ys : List Y) → Pairwise R xs ys → AllByRecursion P xs
 pairwise_all R P f [] [] h = tt
 pairwise_all R P f [] (y ∷ ys) h = absurd h
 pairwise_all R P f (x ∷ xs) [] h = absurd h

@@ -2,7 +2,7 @@
 use Rattle.std.specs.Prelude.{◌≡◌, ℕ, ◌+◌, List, [], ◌∷◌, ◌++◌, length, take, drop, Some, None, codes, decimal, Option, FitsSigned, ◌≢◌, slice_index_or}
 use Rattle.std.specs.Int.{w32}
 use Rattle.std.specs.Str.Parse.{signed_digits_value}
-use Rattle.std.specs.List.{AllByRecursion as All}
+use Rattle.std.specs.List.{AllByRecursion}
 use Rattle.refusal.specs.First.{FirstOut}
 use Rattle.job.specs.Numbers.{IsReal, IsWhole}
 use Rattle.job.specs.Forms.{spelling, form}
@@ -33,10 +33,10 @@ Misses name arguments Unknown = ⊥
 Misses name arguments (Form n) = (n ≡ name) × (Takes name (length arguments) → ⊥)
 Misses name arguments (NotReal place) = Takes name (length arguments) × FirstOut IsReal (take (real_count name) arguments) place
 Misses name arguments (NotWhole place) =
-    Takes name (length arguments) × All IsReal (take (real_count name) arguments)
+    Takes name (length arguments) × AllByRecursion IsReal (take (real_count name) arguments)
     × ((p : ℕ) × (place ≡ real_count name + p) × FirstOut IsWhole (drop (real_count name) arguments) p)
 Misses name arguments (NotNarrow place) =
-    Takes name (length arguments) × All IsReal (take (real_count name) arguments) × All IsWhole (drop (real_count name) arguments)
+    Takes name (length arguments) × AllByRecursion IsReal (take (real_count name) arguments) × AllByRecursion IsWhole (drop (real_count name) arguments)
     × Narrow name × (place ≡ 1) × (FitsSigned w32 (signed_digits_value 10 (slice_index_or arguments 1 [])) → ⊥)
 
 -- what is wrong with words that are no command

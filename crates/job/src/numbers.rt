@@ -1,6 +1,6 @@
 // The numbers of a command, from its words.
 ghost use Rattle.std.specs.Prelude.{◌≡◌, ℕ, List, length, IfOk, MatchOption, MatchResult};
-ghost use Rattle.std.specs.List.{AllByRecursion as All};
+ghost use Rattle.std.specs.List.{AllByRecursion};
 ghost use Rattle.refusal.specs.First.{FirstOut};
 ghost use Rattle.words.specs.Words.{texts};
 ghost use Rattle.job.specs.Numbers.{Pairwise, IsReal, IsWhole, Real, Whole};
@@ -60,7 +60,7 @@ impl Number for i64 {
 // The words as numbers, or the place of the first that is none.
 pub(crate) fn numbers<T: Number, const N: usize>(words: &[&[u8]]) -> Result<[T; N], usize>
     requires { length words.now ≡ N }
-    ensures { MatchResult result (λ xs. All T.Number.form (texts words.now) × Pairwise T.Number.value (texts words.now) xs) (λ p. FirstOut T.Number.form (texts words.now) p) }
+    ensures { MatchResult result (λ xs. AllByRecursion T.Number.form (texts words.now) × Pairwise T.Number.value (texts words.now) xs) (λ p. FirstOut T.Number.form (texts words.now) p) }
 {
     let mut numbers = [T::ZERO; N];
     for i in 0..N {
@@ -77,7 +77,7 @@ pub(crate) fn number_list<T: Number + Drop>(
     heap: Global,
     words: &[&[u8]],
 ) -> Result<Result<Vec<T>, usize>, AllocError>
-    ensures { IfOk result (λ read. MatchResult read (λ xs. All T.Number.form (texts words.now) × Pairwise T.Number.value (texts words.now) xs.items) (λ p. FirstOut T.Number.form (texts words.now) p)) }
+    ensures { IfOk result (λ read. MatchResult read (λ xs. AllByRecursion T.Number.form (texts words.now) × Pairwise T.Number.value (texts words.now) xs.items) (λ p. FirstOut T.Number.form (texts words.now) p)) }
 {
     let mut numbers = Vec::new(heap);
     for i in 0..words.len() {

@@ -1,7 +1,7 @@
 -- What the number, the limits and the search of a kit give.
 use Rattle.std.proofs.Common.{◌≡◌, ℕ, List, ℤ, pos, negsuc, neg_ℤ, ◌≤ℤ◌, ◌<ℤ◌, Some, None, Option, unwrap_or, sym, refl, ap, ◌∙◌, subst, arith}
 use Rattle.std.specs.Option.{option_map}
-use Rattle.std.specs.List.{AllByRecursion as All}
+use Rattle.std.specs.List.{AllByRecursion}
 use Rattle.std.proofs.lemmas.Int.{ints}
 use Rattle.refusal.specs.declared.Refusal.TheVariants.{OutOfReach}
 use Rattle.laws.specs.Meaning.{Meaning, Lawful, Limit}
@@ -40,7 +40,7 @@ module _ (laws : List Meaning) (number : ℤ) (n : ℕ) (taken : NumberTaken law
   limits_are : limits ≡ limits_of taken.law
   limits_are = let e : Some limits ≡ Some (limits_of taken.law) = sym read ∙ asked ∙ ap (option_map limits_of) taken.law_is in cc
 
-  pub limits_in : All Lawful laws → Limit limits.compression × Limit limits.tension
+  pub limits_in : AllByRecursion Lawful laws → Limit limits.compression × Limit limits.tension
   limits_in lawful =
       let s = subst Sound taken.law_is (reached_sound laws n lawful) in
       rw limits_are (s.compression_in, s.tension_in)

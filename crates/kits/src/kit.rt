@@ -1,6 +1,6 @@
 // A kit: the laws of several materials by number, from 0.
 ghost use Rattle.std.specs.Prelude.{◌≡◌, List};
-ghost use Rattle.std.specs.List.{AllByRecursion as All};
+ghost use Rattle.std.specs.List.{AllByRecursion};
 ghost use Rattle.laws.specs.Meaning.{Meaning, Lawful};
 ghost use Rattle.kits.specs.Kits.{counted, stress_at, limits_at};
 
@@ -13,7 +13,7 @@ pub const MOST_LAWS: usize = 255;
 pub trait Kit {
     ghost laws: { Self → List Meaning };
 
-    ghost lawful: { (x : Self) → All Lawful (laws x) };
+    ghost lawful: { (x : Self) → AllByRecursion Lawful (laws x) };
 
     // How many laws can be reached.
     fn count(&self) -> u8

@@ -1,11 +1,11 @@
 -- What a walk knows that looks for the first of a list to fail a test.
 use Rattle.std.proofs.Common.{◌≡◌, ℕ, suc, ◌+◌, List, ◌∷◌, subst, add-zero, zero-add, arith}
-use Rattle.std.specs.List.{AllByRecursion as All}
+use Rattle.std.specs.List.{AllByRecursion}
 use Rattle.refusal.specs.First.{FirstOut}
 
 -- the first n of the list have passed, and the rest is still to be looked at
 pub record Passed {X : Type 0} (Passes : X → Type 0) (list rest : List X) (n : ℕ) : Type 0 where
-  pub all : All Passes rest → All Passes list
+  pub all : AllByRecursion Passes rest → AllByRecursion Passes list
   pub first : (k : ℕ) → FirstOut Passes rest k → FirstOut Passes list (n + k)
 
 module _ {X : Type 0} (Passes : X → Type 0) (list : List X) where

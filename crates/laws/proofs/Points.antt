@@ -1,6 +1,6 @@
 -- The stress of a point law has the shape that its definition means it to have.
 use Rattle.std.proofs.Common.{◌≡◌, Bool, true, false, ◌&&◌, T, List, [], ◌∷◌, ◌++◌, ℤ, ◌≤ℤ◌, ◌<ℤ◌, Option, sym, refl, ap, ◌∙◌, subst, arith}
-use Rattle.std.specs.List.{list_all, AllByRecursion as All}
+use Rattle.std.specs.List.{list_all, AllByRecursion}
 use Rattle.std.proofs.lemmas.Int.{ints, by_lt_z}
 use Rattle.laws.specs.declared.point.Point.{Point}
 use Rattle.laws.specs.Points.{line, onward, point_stress, sound, Sound, all_sound, PointShape}
@@ -93,6 +93,6 @@ both true b x y = y
 both false b x y = absurd x
 
 -- the test that a law's ghost field holds
-pub all_pass_from_all : (steps : List (Option Point × Point)) → All Sound steps → T (list_all sound steps)
+pub all_pass_from_all : (steps : List (Option Point × Point)) → AllByRecursion Sound steps → T (list_all sound steps)
 all_pass_from_all [] h = tt
 all_pass_from_all (s ∷ more) h = both (sound s) (list_all sound more) h.0 (all_pass_from_all more h.1)

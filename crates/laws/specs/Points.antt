@@ -1,6 +1,6 @@
 -- The point law: the given stress at each given strain, straight lines between neighbours, the end stresses beyond.
 use Rattle.std.specs.Prelude.{◌≡◌, ℕ, ◌≤◌, Bool, true, cond, ◌&&◌, T, ◌⊎◌, List, [], ◌∷◌, ◌++◌, length, ℤ, pos, ◌+ℤ◌, ◌-ℤ◌, ◌*ℤ◌, neg_ℤ, ◌≤ℤ◌, Some, None, Option, int_div, int_le, int_lt, unsigned_abs}
-use Rattle.std.specs.List.{list_all, AllByRecursion as All}
+use Rattle.std.specs.List.{list_all, AllByRecursion}
 use Rattle.refusal.specs.First.{FirstOut}
 use Rattle.refusal.specs.Refusals.{Says}
 use Rattle.refusal.specs.declared.Refusal.{Refusal}
@@ -75,7 +75,7 @@ pub record PointLawForm (points : List Point) (compression tension : ℤ) : Type
 -- every point is sound, and the law has the points and the limits as they were given
 pub record PointsTaken (points : List Point) (compression tension : ℤ) (held : List Point) (limits : Limits) : Type 0 where
   pub form : PointLawForm points compression tension
-  pub sound : All Sound (after None points)
+  pub sound : AllByRecursion Sound (after None points)
   pub points_are : held ≡ points
   pub compression_is : pos limits.compression ≡ compression
   pub tension_is : pos limits.tension ≡ tension

@@ -2,7 +2,7 @@
 #![tactic(auto)]
 
 ghost use Rattle.std.specs.Prelude.{◌≡◌, Some};
-ghost use Rattle.refusal.specs.Refusals.{number as number_of_lem, places as places_of, listed, line, sentence as sentence_of};
+ghost use Rattle.refusal.specs.Refusals.{number as number_of, places as places_of, listed, line, sentence as sentence_of};
 
 use std::fmt;
 
@@ -53,7 +53,7 @@ pub enum Places {
 
 impl Refusal {
     pub fn number(&self) -> u8
-        ensures { result ≡ number_of_lem self.now }
+        ensures { result ≡ number_of self.now }
     {
         match self {
             Refusal::CardFigure { .. } => 1,

@@ -1,6 +1,6 @@
 -- What a row's range and the two searches over it show of an ask.
 use Rattle.std.proofs.Common.{◌≡◌, ℕ, ◌≤◌, true, false, T, eqb, List, [], ◌∷◌, length, ℤ, ◌≤ℤ◌, ◌<ℤ◌, Ok, Err, refl, ap, arith, w32, SFits, true-eqb, false-eqb}
-use Rattle.std.specs.List.{AllByRecursion as All}
+use Rattle.std.specs.List.{AllByRecursion}
 use Rattle.std.proofs.lemmas.Int.{ints, by_lt_z}
 use Rattle.refusal.specs.declared.Refusal.TheVariants.{NoneAdmitted, Crushed, Parted}
 use Rattle.search.specs.Points.{Least, Greatest, Nowhere}
@@ -29,7 +29,7 @@ pub not_bare : (fibres : List Fibre) → false ≡ eqb (length fibres) 0 → 1 �
 not_bare [] e = absurd (false-eqb 0 0 e refl)
 not_bare (f ∷ fibres) e = omega arith
 
-module _ (laws : List Meaning) (lawful : All Lawful laws) (fibres : List Fibre) (ranged : T (all_ranged fibres)) (load : ℤ) (depth curvature : ℕ) where
+module _ (laws : List Meaning) (lawful : AllByRecursion Lawful laws) (fibres : List Fibre) (ranged : T (all_ranged fibres)) (load : ℤ) (depth curvature : ℕ) where
   pub truths : TruthsOf laws fibres load depth curvature
   truths = truths_of laws lawful fibres (each_ranged fibres ranged) load depth curvature
 

@@ -2,7 +2,7 @@
 use Rattle.std.proofs.Common.{ℕ, ◌+◌, ◌*◌, ◌≤◌, List, [], ◌∷◌, length, ℤ, pos, ◌+ℤ◌, ◌*ℤ◌, neg_ℤ, ◌≤ℤ◌, fold, ap, subst, suc-mul, arith, w64, SFits}
 use lib.IntN.{*ℤ_comm}
 use borrow.Author.Differences.{neg_is, product_is}
-use Rattle.std.specs.List.{AllByRecursion as All}
+use Rattle.std.specs.List.{AllByRecursion}
 use Rattle.std.proofs.lemmas.Int.{ints}
 use Rattle.std.proofs.lemmas.Nat.{mul-le}
 use Rattle.std.proofs.ByRecursion.{All-weaker}
@@ -34,7 +34,7 @@ scaled_within n k bound z h w =
     (omega (arith, ints), omega (arith, ints))
 
 -- a sum of numbers within a bound
-pub sum_within : (bound : ℕ) (value : Fibre → ℤ) (fibres : List Fibre) → All (λ f. Within bound (value f)) fibres → (from : ℕ) (a : ℤ) → Within from a
+pub sum_within : (bound : ℕ) (value : Fibre → ℤ) (fibres : List Fibre) → AllByRecursion (λ f. Within bound (value f)) fibres → (from : ℕ) (a : ℤ) → Within from a
     → Within (from + length fibres * bound) (fold (λ sum f. sum +ℤ value f) a fibres)
 sum_within bound value [] all from a w = (omega (arith, ints), omega (arith, ints))
 sum_within bound value (f ∷ fibres) all from a w =
@@ -43,7 +43,7 @@ sum_within bound value (f ∷ fibres) all from a w =
     let r = sum_within bound value fibres all.1 (from + bound) (a +ℤ value f) (omega (arith, ints), omega (arith, ints)) in
     (omega (arith, ints), omega (arith, ints))
 
-module _ (laws : List Meaning) (lawful : All Lawful laws) (curvature : ℕ) (small : curvature ≤ 65535) (top : ℤ) (t : TopStrain top) where
+module _ (laws : List Meaning) (lawful : AllByRecursion Lawful laws) (curvature : ℕ) (small : curvature ≤ 65535) (top : ℤ) (t : TopStrain top) where
   pub pull_within : (f : Fibre) → Ranged f → Within 600000000000 (pull laws curvature top f)
   pull_within f r =
       let law = law_of_lawful laws lawful f in
@@ -54,20 +54,20 @@ module _ (laws : List Meaning) (lawful : All Lawful laws) (curvature : ℕ) (sma
   turn_within f r = subst (Within 2457600000000000) (*ℤ_comm (pos f.depth) (pull laws curvature top f))
       (scaled_within f.depth 4096 600000000000 _ r.depth_most (pull_within f r))
 
-  pub force_within : (fibres : List Fibre) → All Ranged fibres → Within (length fibres * 600000000000) (force laws fibres curvature top)
+  pub force_within : (fibres : List Fibre) → AllByRecursion Ranged fibres → Within (length fibres * 600000000000) (force laws fibres curvature top)
   force_within fibres ranged =
       let w = sum_within 600000000000 (pull laws curvature top) fibres (All-weaker Ranged _ pull_within fibres ranged) 0 (pos 0)
       (omega (arith, ints), omega (arith, ints)) in
       (omega (arith, ints), omega (arith, ints))
 
-  pub force_fits : (fibres : List Fibre) → All Ranged fibres → length fibres ≤ 512 → SFits w64 (force laws fibres curvature top)
+  pub force_fits : (fibres : List Fibre) → AllByRecursion Ranged fibres → length fibres ≤ 512 → SFits w64 (force laws fibres curvature top)
   force_fits fibres ranged few = let w = force_within fibres ranged in omega (arith, ints)
 
-  pub turns_within : (fibres : List Fibre) → All Ranged fibres → Within (length fibres * 2457600000000000) (turns laws fibres curvature top)
+  pub turns_within : (fibres : List Fibre) → AllByRecursion Ranged fibres → Within (length fibres * 2457600000000000) (turns laws fibres curvature top)
   turns_within fibres ranged =
       let w = sum_within 2457600000000000 (λ f. pull laws curvature top f *ℤ pos f.depth) fibres (All-weaker Ranged _ turn_within fibres ranged) 0 (pos 0)
       (omega (arith, ints), omega (arith, ints)) in
       (omega (arith, ints), omega (arith, ints))
 
-  pub turns_fit : (fibres : List Fibre) → All Ranged fibres → length fibres ≤ 512 → SFits w64 (turns laws fibres curvature top)
+  pub turns_fit : (fibres : List Fibre) → AllByRecursion Ranged fibres → length fibres ≤ 512 → SFits w64 (turns laws fibres curvature top)
   turns_fit fibres ranged few = let w = turns_within fibres ranged in omega (arith, ints)

@@ -1,6 +1,6 @@
 -- What the fibres that a refusal names do: they bar every top strain that would meet the load.
 use Rattle.std.proofs.Common.{◌≡◌, ℕ, ◌⊎◌, List, ℤ, ◌≤ℤ◌, Err, sym, ◌∙◌, subst, subst₂, inl, inr, arith}
-use Rattle.std.specs.List.{AllByRecursion as All}
+use Rattle.std.specs.List.{AllByRecursion}
 use Rattle.std.proofs.lemmas.Int.{ints, by_lt_z}
 use Rattle.refusal.specs.Refusals.{Says}
 use Rattle.refusal.specs.declared.Refusal.{Refusal}
@@ -39,7 +39,7 @@ module _ (laws : List Meaning) (fibres : List Fibre) (load : ℤ) (curvature : �
   by_15 s (inr (inr (inr (inl c)))) = let e = same_number r _ _ _ _ s c.says in absurd (omega arith)
   by_15 s (inr (inr (inr (inr c)))) = c
 
-module _ (laws : List Meaning) (lawful : All Lawful laws) (fibres : List Fibre) (ranged : All Ranged fibres) (load : ℤ) (depth curvature : ℕ) (r : Refusal) where
+module _ (laws : List Meaning) (lawful : AllByRecursion Lawful laws) (fibres : List Fibre) (ranged : AllByRecursion Ranged fibres) (load : ℤ) (depth curvature : ℕ) (r : Refusal) where
   module _ (top : ℤ) (t : TopStrain top) where
     none_cause : (c : NoneAdmitted laws fibres curvature r) → Stands fibres c.compressed (Crushes laws curvature top) ⊎ Stands fibres c.stretched (Parts laws curvature top)
     none_cause c = by_lt_z top (least_for laws curvature c.sets_least.fibre)

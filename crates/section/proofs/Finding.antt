@@ -1,6 +1,6 @@
 -- An ask comes to something: the fibres that set the range are found along the row, and the ends along the range.
 use Rattle.std.proofs.Common.{◌≡◌, ℕ, zero, suc, ◌<◌, ◌≤◌, List, [], ◌∷◌, ℤ, pos, ◌+ℤ◌, ◌-ℤ◌, neg_ℤ, nat_abs, ◌≤ℤ◌, ◌<ℤ◌, Some, Ok, Err, Result, sym, refl, subst, inl, inr, arith}
-use Rattle.std.specs.List.{AllByRecursion as All, slice_get}
+use Rattle.std.specs.List.{AllByRecursion, slice_get}
 use Rattle.std.proofs.lemmas.Int.{ints, by_lt_z}
 use Rattle.std.proofs.lemmas.Bool.{cases_lt}
 use Rattle.refusal.specs.declared.Refusal.{Refusal}
@@ -131,7 +131,7 @@ last_between value load low high h k =
           omega (arith, ints),
     )
 
-module _ (laws : List Meaning) (lawful : All Lawful laws) (f : Fibre) (rest : List Fibre) (ranged : All Ranged (f ∷ rest))
+module _ (laws : List Meaning) (lawful : AllByRecursion Lawful laws) (f : Fibre) (rest : List Fibre) (ranged : AllByRecursion Ranged (f ∷ rest))
     (load : ℤ) (depth curvature : ℕ) (small : curvature ≤ 65535) where
   askable : Askable (f ∷ rest) curvature
   askable = (small, λ e. let z : ◌≡◌ {A = ℕ} 0 1 = cc in omega arith)
@@ -165,7 +165,7 @@ module _ (laws : List Meaning) (lawful : All Lawful laws) (f : Fibre) (rest : Li
       let t = sets_greatest laws curvature f rest in
       outcome_in s.0 t.0 s.1 t.1 _ _ (admitted_range laws lawful (f ∷ rest) ranged curvature small s.0 t.0 s.1 t.1)
 
-pub has_outcome : (laws : List Meaning) → All Lawful laws → (fibres : List Fibre) → All Ranged fibres → (load : ℤ) (depth curvature : ℕ)
+pub has_outcome : (laws : List Meaning) → AllByRecursion Lawful laws → (fibres : List Fibre) → AllByRecursion Ranged fibres → (load : ℤ) (depth curvature : ℕ)
     → (o : Result Ends Refusal) × Asked laws fibres load depth curvature o
 has_outcome laws lawful [] ranged load depth curvature = elim (cases_lt 65535 curvature) [
   | inl l ↦ (Err TooCurved, inl (l, record { number_is = refl; places_are = refl }))

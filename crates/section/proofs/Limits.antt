@@ -1,7 +1,7 @@
 -- Which top strains the limits admit, and which fibres set the least and the greatest.
 use Rattle.std.proofs.Common.{◌≡◌, ℕ, zero, suc, ◌≤◌, List, [], ◌∷◌, ℤ, ◌≤ℤ◌, Some, None, Option, unwrap_or, refl, subst, inl, inr, arith}
 use Rattle.std.specs.Option.{option_map}
-use Rattle.std.specs.List.{AllByRecursion as All, slice_get}
+use Rattle.std.specs.List.{AllByRecursion, slice_get}
 use Rattle.std.proofs.lemmas.Int.{ints}
 use Rattle.std.proofs.lemmas.Bool.{cases_order}
 use Rattle.laws.specs.Meaning.{Meaning, Lawful}
@@ -17,12 +17,12 @@ pub limits_are : (o : Option Meaning) → unwrap_or (option_map limits_of o) (re
 limits_are None = refl
 limits_are (Some law) = refl
 
-pub all_nth : {X : Type 0} (P : X → Type 0) (xs : List X) → All P xs → (i : ℕ) (x : X) → slice_get xs i ≡ Some x → P x
+pub all_nth : {X : Type 0} (P : X → Type 0) (xs : List X) → AllByRecursion P xs → (i : ℕ) (x : X) → slice_get xs i ≡ Some x → P x
 all_nth P [] all i x e = let z : ◌≡◌ {A = ℕ} 0 1 = cc in absurd (omega arith)
 all_nth P (y ∷ ys) all zero x e = let p : y ≡ x = cc in subst P p all.0
 all_nth P (y ∷ ys) all (suc i) x e = all_nth P ys all.1 i x e
 
-pub all_from_nth : {X : Type 0} (P : X → Type 0) (xs : List X) → ((i : ℕ) (x : X) → slice_get xs i ≡ Some x → P x) → All P xs
+pub all_from_nth : {X : Type 0} (P : X → Type 0) (xs : List X) → ((i : ℕ) (x : X) → slice_get xs i ≡ Some x → P x) → AllByRecursion P xs
 all_from_nth P [] each = tt
 all_from_nth P (y ∷ ys) each = (each 0 y refl, all_from_nth P ys (λ i x e. each (suc i) x e))
 
@@ -66,7 +66,7 @@ admitted_between laws fibres curvature x y z a b h k = admitted_from laws fibres
     let q = admitted_at laws fibres curvature z b i f e in
     (omega (arith, ints), omega (arith, ints)))
 
-module _ (laws : List Meaning) (lawful : All Lawful laws) (fibres : List Fibre) (ranged : All Ranged fibres) (curvature : ℕ) (small : curvature ≤ 65535) where
+module _ (laws : List Meaning) (lawful : AllByRecursion Lawful laws) (fibres : List Fibre) (ranged : AllByRecursion Ranged fibres) (curvature : ℕ) (small : curvature ≤ 65535) where
   -- what lies between the limits of two fibres is a top strain
   limits_in : (top : ℤ) (f g : Fibre) → Ranged f → Ranged g → least_for laws curvature f ≤ℤ top → top ≤ℤ greatest_for laws curvature g → TopStrain top
   limits_in top f g r s h k =

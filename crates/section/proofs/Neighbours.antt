@@ -1,6 +1,6 @@
 -- An end is known by itself and its neighbour: the force never falls, so nothing past the neighbour is an end.
 use Rattle.std.proofs.Common.{ℕ, ◌≤◌, List, ℤ, pos, ◌+ℤ◌, ◌≤ℤ◌, ◌<ℤ◌, arith}
-use Rattle.std.specs.List.{AllByRecursion as All}
+use Rattle.std.specs.List.{AllByRecursion}
 use Rattle.std.proofs.lemmas.Int.{ints, by_lt_z}
 use Rattle.laws.specs.Meaning.{Meaning, Lawful}
 use Rattle.section.specs.Fibres.{force, Ranged, TopStrain, Admitted}
@@ -8,7 +8,7 @@ use Rattle.section.specs.Asked.{Least, Greatest}
 use Rattle.section.specs.declared.fibre.Fibre.{Fibre}
 use Rattle.section.specs.ForceRises.{force_rises}
 
-module _ (laws : List Meaning) (lawful : All Lawful laws) (fibres : List Fibre) (ranged : All Ranged fibres) (load : ℤ) (curvature : ℕ) (small : curvature ≤ 65535) where
+module _ (laws : List Meaning) (lawful : AllByRecursion Lawful laws) (fibres : List Fibre) (ranged : AllByRecursion Ranged fibres) (load : ℤ) (curvature : ℕ) (small : curvature ≤ 65535) where
   pub first_by_neighbour : (x y : ℤ) → Admitted laws fibres curvature x → load ≤ℤ force laws fibres curvature x
       → TopStrain y → x ≤ℤ (y +ℤ pos 1) → force laws fibres curvature y <ℤ load
       → Least (λ top. Admitted laws fibres curvature top × (load ≤ℤ force laws fibres curvature top)) x

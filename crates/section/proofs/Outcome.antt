@@ -1,6 +1,6 @@
 -- An ask comes to one thing only: the grounds exclude each other, and each determines what it says.
 use Rattle.std.proofs.Common.{◌≡◌, ℕ, ◌⊎◌, List, [], ◌∷◌, ℤ, pos, ◌<ℤ◌, Ok, Err, Result, sym, ap, subst, ap₂, inl, inr, arith}
-use Rattle.std.specs.List.{AllByRecursion as All}
+use Rattle.std.specs.List.{AllByRecursion}
 use Rattle.std.proofs.lemmas.Int.{ints}
 use Rattle.refusal.specs.Refusals.{Says}
 use Rattle.refusal.specs.declared.Refusal.{Refusal}
@@ -35,7 +35,7 @@ either_once P Q p q apart r s (inl a) (inr b) = absurd (apart r s a b)
 either_once P Q p q apart r s (inr a) (inl b) = absurd (apart s r b a)
 either_once P Q p q apart r s (inr a) (inr b) = q r s a b
 
-module _ (laws : List Meaning) (lawful : All Lawful laws) (fibres : List Fibre) (ranged : All Ranged fibres) (load : ℤ) (depth curvature : ℕ) where
+module _ (laws : List Meaning) (lawful : AllByRecursion Lawful laws) (fibres : List Fibre) (ranged : AllByRecursion Ranged fibres) (load : ℤ) (depth curvature : ℕ) where
   -- past a refusal for want of balance, every admitted force lies on one side of the load
   pub crushed_above : (r : Refusal) → Crushed laws fibres load curvature r → (top : ℤ) → Admitted laws fibres curvature top → load <ℤ force laws fibres curvature top
   crushed_above r c top a =

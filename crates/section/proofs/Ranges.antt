@@ -2,7 +2,7 @@
 use Rattle.std.proofs.Common.{◌≡◌, ℕ, suc, ◌≤◌, Bool, true, false, ◌&&◌, T, List, [], ◌∷◌, ◌++◌, take, drop, ℤ, pos, neg_ℤ, nat_abs, ◌≤ℤ◌, sym, refl, subst, arith, le→leb, w32, w64, SFits, to_z, of_z}
 use lib.Ieee.Fits.{and_l, and_r}
 use lib.Signed.{le_z, le_z_yes}
-use Rattle.std.specs.List.{remove, AllByRecursion as All}
+use Rattle.std.specs.List.{remove, AllByRecursion}
 use Rattle.std.proofs.ByRecursion.{All-push, All-append, All-take, All-drop}
 use Rattle.std.proofs.lemmas.Int.{ints, to_z-of_z}
 use Rattle.section.specs.declared.fibre.Fibre.{Fibre}
@@ -22,7 +22,7 @@ module _ (least written most : ℤ) (in_range : Within (record { least = least; 
   not_above : written ≤ℤ most
   not_above = le_z_yes (and_r (le_z least written) (le_z written most) in_range)
 
-module _ (depth area material initial : ℤ) (figures_in : All Within (fibre_figures depth area initial)) where
+module _ (depth area material initial : ℤ) (figures_in : AllByRecursion Within (fibre_figures depth area initial)) where
   -- figures in range make a fibre in range
   pub figures_ranged : T (ranged (fibre_of depth area material initial))
   figures_ranged =
@@ -46,11 +46,11 @@ module _ (depth area material initial : ℤ) (figures_in : All Within (fibre_fig
 
 -- ---- the test of all of them
 
-tested : (fibres : List Fibre) → T (all_ranged fibres) → All (λ f. T (ranged f)) fibres
+tested : (fibres : List Fibre) → T (all_ranged fibres) → AllByRecursion (λ f. T (ranged f)) fibres
 tested [] h = tt
 tested (f ∷ fibres) h = (and_l (ranged f) _ h, tested fibres (and_r (ranged f) _ h))
 
-tests : (fibres : List Fibre) → All (λ f. T (ranged f)) fibres → T (all_ranged fibres)
+tests : (fibres : List Fibre) → AllByRecursion (λ f. T (ranged f)) fibres → T (all_ranged fibres)
 tests [] h = tt
 tests (f ∷ fibres) h = both (ranged f) _ h.0 (tests fibres h.1)
 

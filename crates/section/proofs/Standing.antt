@@ -1,6 +1,6 @@
 -- How the ends lie and when an ask is refused; with the rest, what every ask is true to.
 use Rattle.std.proofs.Common.{◌≡◌, ℕ, ◌≤◌, List, ℤ, pos, ◌+ℤ◌, ◌≤ℤ◌, ◌<ℤ◌, Ok, Err, Result, refl, inl, inr, arith}
-use Rattle.std.specs.List.{AllByRecursion as All}
+use Rattle.std.specs.List.{AllByRecursion}
 use Rattle.std.proofs.lemmas.Int.{ints, by_lt_z}
 use Rattle.refusal.specs.declared.Refusal.{Refusal}
 use Rattle.laws.specs.Meaning.{Meaning, Lawful}
@@ -15,7 +15,7 @@ use Rattle.section.proofs.Outcome.{crushed_above, parted_below, one_outcome}
 use Rattle.section.proofs.Finding.{has_outcome}
 use Rattle.section.proofs.Causes.{causes_of}
 
-module _ (laws : List Meaning) (lawful : All Lawful laws) (fibres : List Fibre) (ranged : All Ranged fibres) (load : ℤ) (depth curvature : ℕ) where
+module _ (laws : List Meaning) (lawful : AllByRecursion Lawful laws) (fibres : List Fibre) (ranged : AllByRecursion Ranged fibres) (load : ℤ) (depth curvature : ℕ) where
   rises : curvature ≤ 65535 → (x y : ℤ) → TopStrain x → TopStrain y → x ≤ℤ y → force laws fibres curvature x ≤ℤ force laws fibres curvature y
   rises small = force_rises laws lawful curvature small fibres ranged
 

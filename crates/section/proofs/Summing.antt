@@ -2,7 +2,7 @@
 use Rattle.std.proofs.Common.{◌≡◌, ℕ, ◌+◌, ◌*◌, ◌<◌, ◌≤◌, T, List, length, get_or, take, ℤ, pos, ◌+ℤ◌, ◌-ℤ◌, ◌*ℤ◌, Some, None, fold, Option, unwrap_or, sym, refl, ap, ◌∙◌, subst, arith, w32, w64, SFits, to_z, of_z}
 use lib.IntN.{*ℤ_comm}
 use Rattle.std.specs.Option.{option_map}
-use Rattle.std.specs.List.{AllByRecursion as All}
+use Rattle.std.specs.List.{AllByRecursion}
 use Rattle.std.proofs.ByRecursion.{All-get_or}
 use Rattle.std.proofs.lemmas.Int.{ints, to_z-of_z}
 use Rattle.std.proofs.lemmas.List.Sums.{fold_more}
@@ -33,7 +33,7 @@ product_is_whole n z h f =
 pub lever_is_whole : (n : ℕ) (z : ℤ) → n ≤ 4096 → SFits w64 z → (to_z w64 (of_z w64 z) *ℤ to_z w64 n) ≡ (z *ℤ pos n)
 lever_is_whole n z h f = let p : to_z w64 n ≡ pos n = omega (arith, ints) in simp (to_z-of_z, p)
 
-module _ (laws : List Meaning) (lawful : All Lawful laws) (curvature : ℕ) (small : curvature ≤ 65535) (top : ℤ) (t : TopStrain top) where
+module _ (laws : List Meaning) (lawful : AllByRecursion Lawful laws) (curvature : ℕ) (small : curvature ≤ 65535) (top : ℤ) (t : TopStrain top) where
   pub pull_small : (f : Fibre) → Ranged f → Within 2457600000000000 (pull laws curvature top f)
   pull_small f r = let w = pull_within laws lawful curvature small top t f r in (omega (arith, ints), omega (arith, ints))
 

@@ -1,6 +1,6 @@
 -- The book of a section, and what each call answers and leaves in it.
 use Rattle.std.specs.Prelude.{◌≡◌, ℕ, ◌<◌, ◌≤◌, Bool, ◌&&◌, T, ◌⊎◌, List, [], ◌∷◌, ◌++◌, length, ℤ, pos, neg_ℤ, ◌≤ℤ◌, ◌<ℤ◌, Some, Result, MatchResult, int_le, unsigned_abs}
-use Rattle.std.specs.List.{remove, AllByRecursion as All}
+use Rattle.std.specs.List.{remove, AllByRecursion}
 use Rattle.refusal.specs.First.{FirstOut}
 use Rattle.refusal.specs.Refusals.{Says}
 use Rattle.refusal.specs.declared.Refusal.{Refusal}
@@ -74,7 +74,7 @@ fibre_of depth area material initial = record { depth = unsigned_abs depth; area
 -- the fibre stands after the others, and its position is answered
 pub record PutTaken (laws : List Meaning) (before : Book) (depth area material initial : ℤ) (position : ℕ) (after : Book) : Type 0 where
   pub room : Room before
-  pub figures_in : All Within (fibre_figures depth area initial)
+  pub figures_in : AllByRecursion Within (fibre_figures depth area initial)
   pub law : Meaning
   pub law_is : numbered laws material ≡ Some law
   pub position_is : position ≡ length before.fibres
@@ -91,7 +91,7 @@ FibreRefused before depth area initial refusal = Room before × FigureRefused 7 
 -- 8: no law has the number
 abbrev pub MaterialRefused : List Meaning → Book → ℤ → ℤ → ℤ → ℤ → Refusal → Type 0
 MaterialRefused laws before depth area material initial refusal =
-    Room before × All Within (fibre_figures depth area initial) × NumberRefused laws material refusal
+    Room before × AllByRecursion Within (fibre_figures depth area initial) × NumberRefused laws material refusal
 
 abbrev pub PutRefused : List Meaning → Book → ℤ → ℤ → ℤ → ℤ → Refusal → Type 0
 PutRefused laws before depth area material initial refusal =
@@ -126,7 +126,7 @@ Take before position answer after =
 
 -- the load and its depth are those that were written
 pub record Loaded (before : Book) (load depth : ℤ) (after : Book) : Type 0 where
-  pub figures_in : All Within (load_figures load depth)
+  pub figures_in : AllByRecursion Within (load_figures load depth)
   pub book_is : after ≡ loaded before load (unsigned_abs depth)
 
 abbrev pub Loads : Book → ℤ → ℤ → Result (Unit {0}) Refusal → Book → Type 0

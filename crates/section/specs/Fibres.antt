@@ -1,6 +1,6 @@
 -- A row of fibres at a curvature and a top strain: strain, force, moment, and which top strains the limits admit.
 use Rattle.std.specs.Prelude.{ℕ, ◌*◌, ◌≤◌, List, ℤ, pos, ◌+ℤ◌, ◌-ℤ◌, ◌*ℤ◌, neg_ℤ, ◌≤ℤ◌, Some, None, fold, Option}
-use Rattle.std.specs.List.{AllByRecursion as All}
+use Rattle.std.specs.List.{AllByRecursion}
 use Rattle.laws.specs.Meaning.{Meaning}
 use Rattle.kits.specs.Kits.{reached}
 use Rattle.section.specs.declared.fibre.Fibre.{Fibre}
@@ -50,4 +50,4 @@ Inside law e = (neg_ℤ (pos law.compression) ≤ℤ e) × (e ≤ℤ pos law.ten
 
 -- a top strain at which every fibre is inside its limits
 abbrev pub Admitted : List Meaning → List Fibre → ℕ → ℤ → Type 0
-Admitted laws fibres curvature top = TopStrain top × All (λ f. Inside (law_of laws f) (strain curvature top f)) fibres
+Admitted laws fibres curvature top = TopStrain top × AllByRecursion (λ f. Inside (law_of laws f) (strain curvature top f)) fibres

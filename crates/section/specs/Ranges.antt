@@ -3,7 +3,7 @@ use Rattle.std.specs.Prelude.{ℕ, ◌≤◌, Bool, ◌&&◌, T, List, [], ◌�
 use Rattle.std.proofs.Common.{leb→le}
 use Rattle.std.specs.Float.Ieee.Fits.{and_l, and_r}
 use Rattle.std.specs.Int.Signed.{le_z_yes}
-use Rattle.std.specs.List.{list_all, AllByRecursion as All}
+use Rattle.std.specs.List.{list_all, AllByRecursion}
 use Rattle.section.specs.Fibres.{Ranged}
 use Rattle.section.specs.declared.fibre.Fibre.{Fibre}
 
@@ -26,7 +26,7 @@ fibre_ranged f t =
       initial_most = le_z_yes (and_r (int_le (neg_ℤ (pos 100000000)) f.initial) (int_le f.initial (pos 100000000)) initial);
     }
 
-pub each_ranged : (fibres : List Fibre) → T (all_ranged fibres) → All Ranged fibres
+pub each_ranged : (fibres : List Fibre) → T (all_ranged fibres) → AllByRecursion Ranged fibres
 each_ranged [] t = tt
 each_ranged (f ∷ fibres) t = (fibre_ranged f (and_l (ranged f) (all_ranged fibres) t), each_ranged fibres (and_r (ranged f) (all_ranged fibres) t))
 

@@ -1,6 +1,6 @@
 -- What an ask at a curvature is true to, of lawful laws and fibres in range.
 use Rattle.std.specs.Prelude.{◌≡◌, ℕ, ◌≤◌, ◌⊎◌, List, [], ◌∷◌, ℤ, pos, ◌+ℤ◌, neg_ℤ, ◌≤ℤ◌, ◌<ℤ◌, Some, Ok, Err, Result}
-use Rattle.std.specs.List.{AllByRecursion as All, slice_get}
+use Rattle.std.specs.List.{AllByRecursion, slice_get}
 use Rattle.refusal.specs.Refusals.{Says}
 use Rattle.refusal.specs.declared.Refusal.{Refusal}
 use Rattle.laws.specs.Meaning.{Meaning, Lawful}
@@ -91,4 +91,4 @@ pub record TruthsOf (laws : List Meaning) (fibres : List Fibre) (load : ℤ) (de
   pub causes : (r : Refusal) → Asked laws fibres load depth curvature (Err r) → (top : ℤ) → TopStrain top → Causes laws fibres load curvature r top
 
 abbrev pub Truths : Type 0
-Truths = (laws : List Meaning) → All Lawful laws → (fibres : List Fibre) → All Ranged fibres → (load : ℤ) (depth curvature : ℕ) → TruthsOf laws fibres load depth curvature
+Truths = (laws : List Meaning) → AllByRecursion Lawful laws → (fibres : List Fibre) → AllByRecursion Ranged fibres → (load : ℤ) (depth curvature : ℕ) → TruthsOf laws fibres load depth curvature

@@ -1,7 +1,7 @@
 -- What the words of a line are.
 use Rattle.std.specs.Prelude.{◌≡◌, ℕ, ◌<◌, Bool, true, false, not, ◌||◌, List, [], ◌∷◌, ◌++◌, map, length, ◌==◌}
 use Rattle.std.specs.Borrow.{Bor}
-use Rattle.std.specs.List.{AllByRecursion as All}
+use Rattle.std.specs.List.{AllByRecursion}
 
 -- a space, a tab or a carriage return
 abbrev pub blank : ℕ → Bool
@@ -9,7 +9,7 @@ blank b = b == 32 || b == 9 || b == 13
 
 -- each byte is a blank, where k is true, or none is, where k is false
 abbrev pub Only : Bool → List ℕ → Type 0
-Only k bs = All (λ b. blank b ≡ k) bs
+Only k bs = AllByRecursion (λ b. blank b ≡ k) bs
 
 -- there is no byte, or the first is a blank, where k is true, or is none, where k is false
 abbrev pub Starts : Bool → List ℕ → Type 0

@@ -1,6 +1,6 @@
 // Making a point law: which points and limits are taken, and what is refused.
 ghost use Rattle.std.specs.Prelude.{◌≡◌, ◌≤◌, length, pos, IfOk, None, MatchOption, MatchResult};
-ghost use Rattle.std.specs.List.{AllByRecursion as All};
+ghost use Rattle.std.specs.List.{AllByRecursion};
 ghost use Rattle.refusal.specs.First.{FirstOut};
 ghost use Rattle.laws.specs.Meaning.{Limit};
 ghost use Rattle.laws.specs.Points.{in_range, in_order, sound, Sound, after, AskedLimit, PointsTaken, PointsRefused, PointShape};
@@ -61,7 +61,7 @@ fn is_sound(before: Option<Point>, point: Point) -> bool
 // The place of the first point that is out of range or out of order.
 fn first_unsound(points: &[Point]) -> Option<u8>
     requires { length points.now ≤ 16 }
-    ensures { MatchOption result (All Sound (after None points.now)) (λ place. FirstOut Sound (after None points.now) place) }
+    ensures { MatchOption result (AllByRecursion Sound (after None points.now)) (λ place. FirstOut Sound (after None points.now) place) }
 {
     let mut before = None;
     for (place, point) in points.iter().enumerate() {

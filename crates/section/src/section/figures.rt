@@ -1,6 +1,6 @@
 // The figures of a fibre and of a load, and the range of each.
 ghost use Rattle.std.specs.Prelude.{◌≡◌, MatchResult};
-ghost use Rattle.std.specs.List.{AllByRecursion as All};
+ghost use Rattle.std.specs.List.{AllByRecursion};
 ghost use Rattle.section.specs.Calls.{Within, within, fibre_figures, load_figures, FigureRefused};
 
 use refusal::Refusal;
@@ -22,7 +22,7 @@ fn is_within(least: i64, written: i64, most: i64) -> bool
 
 // Refused by 7 with the place of the first figure that is out of range.
 pub(super) fn check_fibre(depth: i64, area: i64, initial: i64) -> Result<(), Refusal>
-    ensures { MatchResult result (λ _. All Within (fibre_figures depth area initial)) (FigureRefused 7 (fibre_figures depth area initial)) }
+    ensures { MatchResult result (λ _. AllByRecursion Within (fibre_figures depth area initial)) (FigureRefused 7 (fibre_figures depth area initial)) }
 {
     if !is_within(0, depth, MOST_DEPTH) {
         return Err(Refusal::FibreFigure { figure: 0 });
@@ -38,7 +38,7 @@ pub(super) fn check_fibre(depth: i64, area: i64, initial: i64) -> Result<(), Ref
 
 // Refused by 10 with the place of the first figure that is out of range.
 pub(super) fn check_load(force: i64, depth: i64) -> Result<(), Refusal>
-    ensures { MatchResult result (λ _. All Within (load_figures force depth)) (FigureRefused 10 (load_figures force depth)) }
+    ensures { MatchResult result (λ _. AllByRecursion Within (load_figures force depth)) (FigureRefused 10 (load_figures force depth)) }
 {
     if !is_within(-MOST_LOAD, force, MOST_LOAD) {
         return Err(Refusal::LoadFigure { figure: 0 });

@@ -1,6 +1,6 @@
 use Rattle.std.proofs.Common.{◌≡◌, ℕ, ◌+◌, ◌<◌, List, length, take, drop, sym, refl, ap, ◌∙◌, subst, arith, Bor, rules}
 use lib.ListN.{length-map}
-use Rattle.std.specs.List.{AllByRecursion as All}
+use Rattle.std.specs.List.{AllByRecursion}
 use Rattle.std.proofs.lemmas.List.{take-map, drop-map}
 use Rattle.words.specs.Words.{texts}
 use Rattle.refusal.specs.First.{FirstOut}
@@ -39,7 +39,7 @@ returns-in-Err-numbers g c =
     let long : length (texts ws) ≡ length ws = length-map _ _ in
     let many : length (texts ws) ≡ g.row.R + g.row.W = omega arith in (
       c.requires.given _ many,
-      subst (All IsReal) (front_is ws _ _ n c.split_at.ensures.front c.requires.reals_are) c.in-Ok.ensures.0,
+      subst (AllByRecursion IsReal) (front_is ws _ _ n c.split_at.ensures.front c.requires.reals_are) c.in-Ok.ensures.0,
       (
         c.in-Err-numbers.place,
         ap (λ m. m + c.in-Err-numbers.place) c.requires.reals_are,

@@ -1,6 +1,6 @@
 use Rattle.std.proofs.Common.{◌≡◌, ℕ, ◌<◌, List, [], ◌∷◌, length, get_or, take, drop, ℤ, pos, sym, refl, ◌∙◌, subst, arith, w32, w64, SFits, to_z, of_z, rules}
 use Rattle.std.proofs.lemmas.Int.{to_z-of_z}
-use Rattle.std.specs.List.{AllByRecursion as All}
+use Rattle.std.specs.List.{AllByRecursion}
 use Rattle.words.specs.Words.{texts}
 use Rattle.job.specs.Numbers.{IsReal, IsWhole, Whole, Pairwise}
 use Rattle.job.proofs.Pairs.{places, pairwise_places, pairwise_kept, pairwise_length, pairwise_all, pairwise_get_or}
@@ -31,8 +31,8 @@ returns-in-Err c =
     let fits : SFits w64 (get_or numbers 1 (pos 0)) = subst (SFits w64) (sym strain.value) strain.is_whole.fits in
     let back = to_z-of_z w64 (get_or numbers 1 (pos 0)) fits ∙ strain.value in (
       c.requires.0.given _ long,
-      subst (λ n. All IsReal (take n ts)) none tt,
-      subst (λ n. All IsWhole (drop n ts)) none (pairwise_all Whole IsWhole (λ w n h. h.is_whole) ts numbers read),
+      subst (λ n. AllByRecursion IsReal (take n ts)) none tt,
+      subst (λ n. AllByRecursion IsWhole (drop n ts)) none (pairwise_all Whole IsWhole (λ w n h. h.is_whole) ts numbers read),
       c.requires.1,
       refl,
       λ h. c.in-Err.ensures (subst (SFits w32) (sym back) h),

@@ -1,6 +1,6 @@
 use Rattle.std.proofs.Common.{◌≡◌, ℕ, ◌*◌, ◌≤◌, [], ◌∷◌, ℤ, pos, ◌+ℤ◌, ◌-ℤ◌, neg_ℤ, ◌≤ℤ◌, ◌<ℤ◌, refl, arith, lit≤}
 use lib.Signed.{le_z_yes, lt_z_yes}
-use Rattle.std.specs.List.{AllByRecursion as All}
+use Rattle.std.specs.List.{AllByRecursion}
 use Rattle.std.proofs.lemmas.Int.{ints}
 use Rattle.laws.specs.Meaning.{Lawful}
 use Rattle.laws.specs.TwoLine.{elastic, two_line}
@@ -10,13 +10,13 @@ use Rattle.section.specs.Worked.{material, layer, layers, Answers}
 use Rattle.section.proofs.Neighbours.{first_by_neighbour, last_by_neighbour}
 use Rattle.section.proofs.worked.worked_sections_stand.Goals as goal
 
-lawful : All Lawful (material ∷ [])
+lawful : AllByRecursion Lawful (material ∷ [])
 lawful = (two_line_lawful 1000000 1000 1000 2000000 2000000 (lit≤ tt) (lit≤ tt) (lit≤ tt, lit≤ tt) (lit≤ tt, lit≤ tt), tt)
 
 layer_ranged : (depth : ℕ) → depth ≤ 4096 → Ranged (layer depth)
 layer_ranged depth h = record { depth_most = h; area_least = lit≤ tt; area_most = lit≤ tt; initial_least = le_z_yes tt; initial_most = le_z_yes tt }
 
-ranged : All Ranged layers
+ranged : AllByRecursion Ranged layers
 ranged = (layer_ranged 0 (lit≤ tt), (layer_ranged 100 (lit≤ tt), tt))
 
 admitted : (curvature : ℕ) (top : ℤ) → neg_ℤ (pos 2000000) ≤ℤ top → (top +ℤ pos (curvature * 100)) ≤ℤ pos 2000000 → Admitted (material ∷ []) layers curvature top

@@ -1,12 +1,12 @@
 use Rattle.std.proofs.Common.{◌≡◌, List, None, vec_items, refl, subst, rules}
-use Rattle.std.specs.List.{AllByRecursion as All}
+use Rattle.std.specs.List.{AllByRecursion}
 use Rattle.laws.specs.declared.point.Point.{Point}
 use Rattle.laws.specs.Points.{Sound, after, PointLawForm}
 use Rattle.laws.proofs.Points.{point_shape, all_pass_from_all}
 use Rattle.laws.proofs.point_law.PointLaw.new.Goals as goal
 
-sound : {seen points : List Point} → seen ≡ points → All Sound (after None seen) → All Sound (after None points)
-sound e h = let P : List Point → Type 0 = λ ps. All Sound (after None ps) in subst P e h
+sound : {seen points : List Point} → seen ≡ points → AllByRecursion Sound (after None seen) → AllByRecursion Sound (after None points)
+sound e h = let P : List Point → Type 0 = λ ps. AllByRecursion Sound (after None ps) in subst P e h
 
 pub invariant_of-result : goal.invariant_of-result
 invariant_of-result c =

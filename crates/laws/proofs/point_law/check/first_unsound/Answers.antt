@@ -1,5 +1,5 @@
 use Rattle.std.proofs.Common.{T, List, None, sym, subst}
-use Rattle.std.specs.List.{AllByRecursion as All}
+use Rattle.std.specs.List.{AllByRecursion}
 use Rattle.std.proofs.lemmas.List.{drop_more, drop_all}
 use Rattle.laws.specs.declared.point.Point.{Point}
 use Rattle.laws.specs.Points.{Sound, after}
@@ -25,5 +25,5 @@ loop-place-preserved c =
 pub returns : goal.returns
 returns c =
     let points = c.args.points.now in
-    let P : List Point → Type 0 = λ ps. All Sound (after c.loop-place.before ps) in
+    let P : List Point → Type 0 = λ ps. AllByRecursion Sound (after c.loop-place.before ps) in
     c.loop-place.invariant.all (subst P (sym (drop_all c.loop-place.place points c.loop-place-test.false)) tt)

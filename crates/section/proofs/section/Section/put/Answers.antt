@@ -1,5 +1,5 @@
 use Rattle.std.proofs.Common.{[], ◌∷◌, ◌++◌, vec_items, refl, ap, ◌∙◌, inr, rules}
-use Rattle.std.specs.List.{AllByRecursion as All}
+use Rattle.std.specs.List.{AllByRecursion}
 use Rattle.std.proofs.lemmas.Int.{to_z-of_z}
 use Rattle.section.specs.declared.fibre.Fibre.{Fibre}
 use Rattle.section.specs.Books.{book_of}
@@ -11,7 +11,7 @@ use Rattle.section.proofs.section.Section.put.Goals as goal
 pub returns-in_default : goal.returns-in_default
 returns-in_default g c =
     let room : Room (book_of c.args.self.now) = search rules in
-    let figures_in : All Within (fibre_figures c.args.depth c.args.area c.args.initial) = search rules in
+    let figures_in : AllByRecursion Within (fibre_figures c.args.depth c.args.area c.args.initial) = search rules in
     let f = c.ranges.material in
     let none = no_byte (g.K.Kit.laws c.args.self.now.row.kit) c.args.material (simp to_z-of_z at c.in_default.ensures) in
     record { kit = refl; book = (inr (inr (room, figures_in, record { no_law = none; says = record { number_is = refl; places_are = refl } })), refl) }
@@ -19,7 +19,7 @@ returns-in_default g c =
 pub returns-in_default-limits : goal.returns-in_default-limits
 returns-in_default-limits g c =
     let room : Room (book_of c.args.self.now) = search rules in
-    let figures_in : All Within (fibre_figures c.args.depth c.args.area c.args.initial) = search rules in
+    let figures_in : AllByRecursion Within (fibre_figures c.args.depth c.args.area c.args.initial) = search rules in
     let f = c.ranges.material in
     let byte = simp to_z-of_z at c.in-Ok.ensures in
     let none = no_law (g.K.Kit.laws c.args.self.now.row.kit) c.args.material c.in-Ok.number byte.0 byte.1 c.in_default-limits.ensures in
@@ -28,7 +28,7 @@ returns-in_default-limits g c =
 pub invariant_of-self : goal.invariant_of-self
 invariant_of-self g c =
     let row = c.args.self.now.row in
-    let figures_in : All Within (fibre_figures c.args.depth c.args.area c.args.initial) = search rules in
+    let figures_in : AllByRecursion Within (fibre_figures c.args.depth c.args.area c.args.initial) = search rules in
     let f = c.ranges.material in
     let byte = simp to_z-of_z at c.in-Ok.ensures in
     let fibre = fibre_cast c.args.depth c.args.area c.args.material c.args.initial figures_in c.in-Ok.number c.ranges.depth c.ranges.area c.ranges.initial byte.1 in
@@ -40,7 +40,7 @@ pub returns : goal.returns
 returns g c =
     let row = c.args.self.now.row in
     let room : Room (book_of c.args.self.now) = search rules in
-    let figures_in : All Within (fibre_figures c.args.depth c.args.area c.args.initial) = search rules in
+    let figures_in : AllByRecursion Within (fibre_figures c.args.depth c.args.area c.args.initial) = search rules in
     let f = c.ranges.material in
     let byte = simp to_z-of_z at c.in-Ok.ensures in
     let law = some_law (g.K.Kit.laws row.kit) c.args.material c.in-Ok.number byte.0 byte.1 c.in-Some.field-0 c.in-Some.ensures in
