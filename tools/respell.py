@@ -1,7 +1,7 @@
 #!/usr/bin/env python3
 """Spells the repository's own definitions and lemmas in snake case: tools/respell.py, once, at the top, right after
-/opt/rattle/port/port.py. It goes over specs/, proofs/, the clauses of src/ and the must-fail edits. Comments and
-strings stay, and so do the names of the library, of functions and of the goals that Rattle makes."""
+/opt/rattle/port/port.py. It goes over src/, specs/, proofs/ and the must-fail edits. Comments and strings
+stay, and so do the names of the library, of functions and of the goals that Rattle makes."""
 import os
 import re
 

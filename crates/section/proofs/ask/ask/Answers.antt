@@ -96,6 +96,7 @@ moment-requires g c =
     let sets = c.row_range-range.ensures in
     let a = low_fits laws lawful c.args.fibres.now c.requires.ranged c.args.load c.args.load_depth c.args.curvature small some r sets in
     let b = high_fits laws lawful c.args.fibres.now c.requires.ranged c.args.load c.args.load_depth c.args.curvature small some r sets in
+    let h = c.requires.loaded in
     let load = c.ranges.load in
     let found = simp to_z-of_z at c.in-Some-least.ensures.found in
     let top = covered laws lawful c.args.fibres.now c.requires.ranged c.args.load c.args.load_depth c.args.curvature small some r sets c.in-Some-least.first found.from found.to in
@@ -105,7 +106,7 @@ moment-requires g c =
       within = simp to_z-of_z top;
       ranged = c.requires.ranged;
       few = c.requires.few;
-      loaded = simp to_z-of_z c.requires.loaded;
+      loaded = simp to_z-of_z (record { least = h.least; most = h.most; depth_most = omega arith });
     }
 
 pub moment-requires-2 : goal.moment-requires-2
@@ -118,6 +119,7 @@ moment-requires-2 g c =
     let sets = c.row_range-range.ensures in
     let a = low_fits laws lawful c.args.fibres.now c.requires.ranged c.args.load c.args.load_depth c.args.curvature small some r sets in
     let b = high_fits laws lawful c.args.fibres.now c.requires.ranged c.args.load c.args.load_depth c.args.curvature small some r sets in
+    let h = c.requires.loaded in
     let load = c.ranges.load in
     let found = simp to_z-of_z at c.in-Some.ensures.found in
     let top = covered laws lawful c.args.fibres.now c.requires.ranged c.args.load c.args.load_depth c.args.curvature small some r sets c.in-Some.last found.from found.to in
@@ -127,7 +129,7 @@ moment-requires-2 g c =
       within = simp to_z-of_z top;
       ranged = c.requires.ranged;
       few = c.requires.few;
-      loaded = simp to_z-of_z c.requires.loaded;
+      loaded = simp to_z-of_z (record { least = h.least; most = h.most; depth_most = omega arith });
     }
 
 pub returns : goal.returns
