@@ -4,3 +4,4 @@ pub mod Points
 pub mod PointsLawful
 pub mod Worked
 pub mod Written
+pub mod Range

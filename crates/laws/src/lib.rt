@@ -4,4 +4,5 @@
 pub mod law;
 pub mod point;
 pub mod point_law;
+pub mod up_to;
 pub mod worked;

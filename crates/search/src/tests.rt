@@ -18,13 +18,7 @@ impl<'a> NeverFalls for Marks<'a> {
     ghost rises = { λ q x y a b h. reached_rises q.marks.now x y h };
 
     fn at(&self, point: i32) -> i64 {
-        let mut count: u32 = 0;
-        for mark in self.marks {
-            if *mark <= point {
-                count += 1;
-            }
-        }
-        count as i64
+        self.marks.iter().filter(|mark| **mark <= point).count() as i64
     }
 }
 

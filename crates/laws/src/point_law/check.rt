@@ -8,31 +8,21 @@ ghost use Rattle.laws.specs.Points.{in_range, in_order, sound, Sound, after, Ask
 use super::PointLaw;
 use crate::law::Limits;
 use crate::point::Point;
+use crate::up_to::UpTo;
 use refusal::Refusal;
 
 const FEWEST_POINTS: usize = 2;
 
 const MOST_POINTS: usize = 16;
 
-// The greatest limit, in nano.
-const MOST_LIMIT: i64 = 100_000_000;
+// A limit in nano.
+type Limit = UpTo<100_000_000>;
 
 // The greatest strain of a point, in nano.
 const MOST_STRAIN: i64 = 100_000_000;
 
 // The greatest stress of a point, in psi.
 const MOST_STRESS: i64 = 300_000;
-
-// A limit in nano, where the number is one.
-fn limit_of(nano: i64) -> Option<u32>
-    ensures { MatchOption result (AskedLimit nano → ⊥) (λ n. AskedLimit nano × (pos n ≡ nano) × Limit n) }
-{
-    if 1 <= nano && nano <= MOST_LIMIT {
-        Some(nano as u32)
-    } else {
-        None
-    }
-}
 
 fn in_range(point: Point) -> bool
     ensures { result ≡ in_range point }
@@ -46,10 +36,7 @@ fn in_range(point: Point) -> bool
 fn in_order(before: Option<Point>, point: Point) -> bool
     ensures { result ≡ in_order before point }
 {
-    match before {
-        Some(b) => b.strain < point.strain && b.stress <= point.stress,
-        None => true,
-    }
+    before.is_none_or(|b| b.strain < point.strain && b.stress <= point.stress)
 }
 
 fn is_sound(before: Option<Point>, point: Point) -> bool
@@ -79,21 +66,24 @@ impl PointLaw {
         ensures cases { MatchResult result (λ law. PointsTaken points.items compression tension law.points.items law.limits) (λ refusal. PointsRefused points.items compression tension refusal) }
         ensures shape { IfOk result (λ law. PointShape law.points.items) }
     {
-        let (Some(shortest), Some(longest)) = (limit_of(compression), limit_of(tension)) else {
+        let (Ok(compression), Ok(tension)) = (
+            Limit::try_from(compression),
+            Limit::try_from(tension),
+        ) else {
             return Err(Refusal::PointLawForm);
         };
         if points.len() < FEWEST_POINTS || MOST_POINTS < points.len() {
             return Err(Refusal::PointLawForm);
         }
-        match first_unsound(&points) {
-            Some(point) => Err(Refusal::LawPoint { point }),
-            None => Ok(PointLaw {
-                points,
-                limits: Limits {
-                    compression: shortest,
-                    tension: longest,
-                },
-            }),
+        if let Some(point) = first_unsound(&points) {
+            return Err(Refusal::LawPoint { point });
         }
+        Ok(PointLaw {
+            points,
+            limits: Limits {
+                compression: compression.number,
+                tension: tension.number,
+            },
+        })
     }
 }

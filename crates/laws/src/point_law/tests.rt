@@ -16,18 +16,13 @@ fn refused(
     points: &[Point],
     limits: (i64, i64),
 ) -> Result<Option<Refusal>, AllocError> {
-    match PointLaw::new(points.to_vec(heap)?, limits.0, limits.1) {
-        Ok(_) => Ok(None),
-        Err(refusal) => Ok(Some(refusal)),
-    }
+    let (compression, tension) = limits;
+    Ok(PointLaw::new(points.to_vec(heap)?, compression, tension).err())
 }
 
 // So many points on one line.
 fn refused_count(heap: Global, count: u8) -> Result<Option<Refusal>, AllocError> {
-    let mut points = Vec::new(heap);
-    for n in 0..count {
-        points.push(at(n as i64, n as i64))?;
-    }
+    let points: Vec<Point> = (0..count).map(|n| at(n as i64, n as i64)).collect(heap)?;
     refused(heap, &points, (1, 1))
 }
 

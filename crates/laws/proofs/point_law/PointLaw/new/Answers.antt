@@ -8,22 +8,8 @@ use Rattle.laws.proofs.point_law.PointLaw.new.Goals as goal
 sound : {seen points : List Point} → seen ≡ points → AllByRecursion Sound (after None seen) → AllByRecursion Sound (after None points)
 sound e h = let P : List Point → Type 0 = λ ps. AllByRecursion Sound (after None ps) in subst P e h
 
-pub invariant_of-result : goal.invariant_of-result
-invariant_of-result c =
-    let all = sound c.deref.ensures.value c.in-None.ensures in
-    record {
-      enough = search rules;
-      few = search rules;
-      points_sound = all_pass_from_all _ all;
-      shortest_in = c.in-Some-Some.ensures.2;
-      longest_in = c.in-Some-Some.ensures'.2;
-    }
+pub invariant_of-result-clause-points_sound : goal.invariant_of-result-clause-points_sound
+invariant_of-result-clause-points_sound c = all_pass_from_all _ (sound c.deref.ensures.value c.in_default-first_unsound.ensures)
 
-pub returns-in-None : goal.returns-in-None
-returns-in-None c =
-    let all = sound c.deref.ensures.value c.in-None.ensures in
-    let form : PointLawForm (vec_items c.args.points) c.args.compression c.args.tension = search rules in
-    record {
-      cases = record { form = form; sound = all; points_are = refl; compression_is = search rules; tension_is = search rules };
-      shape = point_shape _ (all_pass_from_all _ all);
-    }
+pub returns-clause-shape : goal.returns-clause-shape
+returns-clause-shape c = point_shape _ (all_pass_from_all _ (sound c.deref.ensures.value c.in_default-first_unsound.ensures))
