@@ -1,5 +1,6 @@
 -- The figures of a card: the range of each, and the whole number that it becomes.
 use Rattle.std.specs.Prelude.{ℕ, ◌≤◌, Bool, false, ◌&&◌, Float}
+use Rattle.std.specs.Coded.{×_prop, le_prop}
 use Rattle.std.specs.Float.Ieee.{le, mul, round, to_unsigned}
 use Rattle.std.specs.Float.{float_round, binary64}
 use Rattle.cards.specs.declared.figures.Figure.{Figure}
@@ -44,3 +45,19 @@ Bounded Strain n = (1000000 ≤ n) × (n ≤ 100000000)
 Bounded Localization n = (2500000 ≤ n) × (n ≤ 100000000)
 Bounded DeckStrength n = (2000 ≤ n) × (n ≤ 20000)
 Bounded Yielding n = (1000 ≤ n) × (n ≤ 300000)
+
+-- a figure in whole numbers, within its range
+abbrev pub InRange : Figure × ℕ → Type 0
+InRange f = Bounded f.0 f.1
+
+Bounded-prop : (figure : Figure) (n : ℕ) → IsProp (Bounded figure n)
+Bounded-prop Modulus n = ×_prop le_prop le_prop
+Bounded-prop UhpcStrength n = ×_prop le_prop le_prop
+Bounded-prop Cracking n = ×_prop le_prop le_prop
+Bounded-prop Strain n = ×_prop le_prop le_prop
+Bounded-prop Localization n = ×_prop le_prop le_prop
+Bounded-prop DeckStrength n = ×_prop le_prop le_prop
+Bounded-prop Yielding n = ×_prop le_prop le_prop
+
+pub InRange-prop : (f : Figure × ℕ) → IsProp (InRange f)
+InRange-prop f = Bounded-prop f.0 f.1

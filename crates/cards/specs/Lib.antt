@@ -1,4 +1,5 @@
 pub mod Figures
+pub mod Kinds
 pub mod Lines
 pub mod Cards
 pub mod Written

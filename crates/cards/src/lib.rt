@@ -8,5 +8,4 @@ pub mod states;
 #[cfg(test)]
 mod tests;
 pub mod two_line;
-mod whole;
 pub mod written;

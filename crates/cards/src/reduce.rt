@@ -1,20 +1,38 @@
 // From a checked card to a reduced one.
-ghost use Rattle.std.specs.Prelude.{◌≡◌, pos, MatchOption, MatchResult};
-ghost use Rattle.cards.specs.Cards.{Factor as IsFactor, Thousandths, FactorRefused, Reduced};
+ghost use Rattle.std.specs.Prelude.{◌≡◌, pos, MatchResult};
+ghost use Rattle.cards.specs.Cards.{FactorRefused, FactorOut, Reduced};
 
 use crate::states::{CheckedCard, ReducedCard};
-use crate::two_line::reduction::lines_of;
 use crate::written::RefusedCard;
+use laws::up_to::UpTo;
 use refusal::Refusal;
 
-// A factor in thousandths, where the number is one.
-fn factor_of(thousandths: i64) -> Option<u32>
-    ensures { MatchOption result (IsFactor thousandths → ⊥) (λ n. IsFactor thousandths × (pos n ≡ thousandths) × Thousandths n) }
+// A factor in thousandths.
+pub(crate) type Factor = UpTo<850>;
+
+// What a strength and what a crack is multiplied by.
+#[derive(Clone, Copy)]
+pub(crate) struct Factors {
+    pub(crate) alpha: Factor,
+    pub(crate) gamma: Factor,
+}
+
+// Refused by its place where it is out of range.
+fn factor(place: u8, thousandths: i64) -> Result<Factor, Refusal>
+    ensures { MatchResult result (λ f. pos f.number ≡ thousandths) (FactorOut place thousandths) }
 {
-    if 1 <= thousandths && thousandths <= 850 {
-        Some(thousandths as u32)
-    } else {
-        None
+    Factor::try_from(thousandths).map_err(|_| Refusal::Factor { factor: place })
+}
+
+impl Factors {
+    // Refused by 2 with the place of the first that is out of range.
+    fn new(alpha: i64, gamma: i64) -> Result<Factors, Refusal>
+        ensures { MatchResult result (λ f. (pos f.alpha.number ≡ alpha) × (pos f.gamma.number ≡ gamma)) (FactorRefused alpha gamma) }
+    {
+        Ok(Factors {
+            alpha: factor(0, alpha)?,
+            gamma: factor(1, gamma)?,
+        })
     }
 }
 
@@ -23,20 +41,14 @@ impl CheckedCard {
     pub fn reduce(self, alpha: i64, gamma: i64) -> Result<ReducedCard, RefusedCard<CheckedCard>>
         ensures { MatchResult result (λ c. Reduced alpha gamma self.figures c.law) (λ e. FactorRefused alpha gamma e.refusal × (e.card ≡ self)) }
     {
-        let Some(a) = factor_of(alpha) else {
-            return Err(RefusedCard {
+        match Factors::new(alpha, gamma) {
+            Ok(factors) => Ok(ReducedCard {
+                law: self.lines(factors),
+            }),
+            Err(refusal) => Err(RefusedCard {
                 card: self,
-                refusal: Refusal::Factor { factor: 0 },
-            });
-        };
-        let Some(g) = factor_of(gamma) else {
-            return Err(RefusedCard {
-                card: self,
-                refusal: Refusal::Factor { factor: 1 },
-            });
-        };
-        Ok(ReducedCard {
-            law: lines_of(a, g, &self.figures),
-        })
+                refusal,
+            }),
+        }
     }
 }

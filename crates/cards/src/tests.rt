@@ -1,68 +1,42 @@
 // Cards at the ends of every range, refused and handed back, and the laws that they make.
+ghost use Rattle.std.specs.Prelude.{◌<◌};
+
 use crate::states::CheckedCard;
 use crate::two_line::{Plateaus, TwoLine};
-use crate::written::{DeckFigures, SteelFigures, UhpcFigures, WrittenCard};
+use crate::written::{Figures, WrittenCard};
 use laws::law::{Law, Limits};
 use refusal::Refusal;
 use std::test::Fail;
 
-fn uhpc(f: [f64; 5]) -> WrittenCard {
-    let [modulus, strength, cracking, ultimate, localization] = f;
-    WrittenCard::Uhpc(UhpcFigures {
-        modulus,
-        strength,
-        cracking,
-        ultimate,
-        localization,
-    })
+fn uhpc(figures: [f64; 5]) -> WrittenCard {
+    Figures::Uhpc(figures.into())
 }
 
-fn deck(f: [f64; 3]) -> WrittenCard {
-    let [modulus, strength, ultimate] = f;
-    WrittenCard::Deck(DeckFigures {
-        modulus,
-        strength,
-        ultimate,
-    })
+fn deck(figures: [f64; 3]) -> WrittenCard {
+    Figures::Deck(figures.into())
 }
 
-fn steel(f: [f64; 3]) -> WrittenCard {
-    let [modulus, yielding, rupture] = f;
-    WrittenCard::Steel(SteelFigures {
-        modulus,
-        yielding,
-        rupture,
-    })
+fn steel(figures: [f64; 3]) -> WrittenCard {
+    Figures::Steel(figures.into())
 }
 
 // Why the check refuses a card, if it does.
 fn refused(card: WrittenCard) -> Option<Refusal> {
-    match card.check() {
-        Ok(_) => None,
-        Err(refused) => Some(refused.refusal),
-    }
+    card.check().err().map(Refusal::from)
 }
 
 fn checked(card: WrittenCard) -> Result<CheckedCard, Fail> {
-    match card.check() {
-        Ok(checked) => Ok(checked),
-        Err(_) => Err(Fail::new("refused by the check")),
-    }
+    Ok(card.check().map_err(Refusal::from)?)
 }
 
 // Why the reduction refuses a card, if it does.
 fn unreduced(card: CheckedCard, alpha: i64, gamma: i64) -> Option<Refusal> {
-    match card.reduce(alpha, gamma) {
-        Ok(_) => None,
-        Err(refused) => Some(refused.refusal),
-    }
+    card.reduce(alpha, gamma).err().map(Refusal::from)
 }
 
 fn law(card: WrittenCard, alpha: i64, gamma: i64) -> Result<TwoLine, Fail> {
-    match checked(card)?.reduce(alpha, gamma) {
-        Ok(reduced) => Ok(reduced.law()),
-        Err(_) => Err(Fail::new("refused by the reduction")),
-    }
+    let reduced = checked(card)?.reduce(alpha, gamma).map_err(Refusal::from)?;
+    Ok(reduced.law())
 }
 
 const NAN: f64 = 0.0 / 0.0;
@@ -74,6 +48,16 @@ fn outside(under: f64, over: f64) -> [f64; 7] {
     [under, over, NAN, INFINITE, -INFINITE, 0.0, -1.0]
 }
 
+// The figures with another one in one place.
+fn replaced<const N: usize>(figures: [f64; N], place: usize, figure: f64) -> [f64; N]
+    requires { place < N }
+{
+    let mut figures = figures;
+    figures[place] = figure;
+    figures
+}
+
+// The next three tests loop alike: one function of them all would take a closure, and its bound may name no const parameter.
 #[test]
 fn uhpc_ends(rt: HostRuntime) {
     let low = [100.0, 17.5, 0.75, 0.001, 0.0025];
@@ -94,12 +78,13 @@ fn uhpc_ends(rt: HostRuntime) {
         0.10000000000000002,
         0.10000000000000002,
     ];
-    for figure in 0u8..5 {
-        let i = figure as usize;
-        for x in outside(under[i], over[i]) {
-            let mut f = low;
-            f[i] = x;
-            assert_eq!(rt; refused(uhpc(f)), Some(Refusal::CardFigure { figure }));
+    for (place, (under, over)) in under.iter().zip(&over).enumerate() {
+        for x in outside(*under, *over) {
+            let figure = place as u8;
+            assert_eq!(rt;
+                refused(uhpc(replaced(low, place, x))),
+                Some(Refusal::CardFigure { figure })
+            );
         }
     }
     assert_eq!(rt;
@@ -116,12 +101,13 @@ fn deck_ends(rt: HostRuntime) {
     assert_eq!(rt; refused(deck([40000.0, 20.0, 0.1])), None);
     let under = [99.99999999999999, 1.9999999999999998, 0.0009999999999999998];
     let over = [40000.00000000001, 20.000000000000004, 0.10000000000000002];
-    for figure in 0u8..3 {
-        let i = figure as usize;
-        for x in outside(under[i], over[i]) {
-            let mut f = low;
-            f[i] = x;
-            assert_eq!(rt; refused(deck(f)), Some(Refusal::CardFigure { figure }));
+    for (place, (under, over)) in under.iter().zip(&over).enumerate() {
+        for x in outside(*under, *over) {
+            let figure = place as u8;
+            assert_eq!(rt;
+                refused(deck(replaced(low, place, x))),
+                Some(Refusal::CardFigure { figure })
+            );
         }
     }
 }
@@ -133,12 +119,13 @@ fn steel_ends(rt: HostRuntime) {
     assert_eq!(rt; refused(steel([40000.0, 300.0, 0.1])), None);
     let under = [99.99999999999999, 0.9999999999999999, 0.0009999999999999998];
     let over = [40000.00000000001, 300.00000000000006, 0.10000000000000002];
-    for figure in 0u8..3 {
-        let i = figure as usize;
-        for x in outside(under[i], over[i]) {
-            let mut f = low;
-            f[i] = x;
-            assert_eq!(rt; refused(steel(f)), Some(Refusal::CardFigure { figure }));
+    for (place, (under, over)) in under.iter().zip(&over).enumerate() {
+        for x in outside(*under, *over) {
+            let figure = place as u8;
+            assert_eq!(rt;
+                refused(steel(replaced(low, place, x))),
+                Some(Refusal::CardFigure { figure })
+            );
         }
     }
 }
@@ -148,7 +135,7 @@ fn cards_come_back(rt: HostRuntime) -> Result<(), Fail> {
     let Err(back) = uhpc([6500.0, 20.0, 6.0, 0.0035, 0.0045]).check() else {
         return Err(Fail::new("taken"));
     };
-    let WrittenCard::Uhpc(f) = back.card else {
+    let Figures::Uhpc(f) = back.card else {
         return Err(Fail::new("another kind"));
     };
     assert_eq!(rt;
@@ -193,10 +180,7 @@ fn factors(rt: HostRuntime) -> Result<(), Fail> {
         (850, 850, None),
     ];
     for (alpha, gamma, place) in cases {
-        let want = match place {
-            Some(factor) => Some(Refusal::Factor { factor }),
-            None => None,
-        };
+        let want = place.map(|factor| Refusal::Factor { factor });
         assert_eq!(rt;
             unreduced(
                 checked(uhpc([6500.0, 20.0, 1.0, 0.0035, 0.0045]))?,
