@@ -30,16 +30,6 @@ reached_none laws n h =
     (λ g. cond-false (ltb n 255) (slice_get laws n) None (le-ltb n 255 g))
     (cases_lt n 255)
 
-pub reached_item : {L : Type 0} (meaning : L → Meaning) (xs : List L) (n : ℕ) (x : L) → n < 255 → n < length xs → x ≡ get_or xs n x → reached (map meaning xs) n ≡ Some (meaning x)
-reached_item meaning xs n x few inside item =
-    let l = length-map xs meaning in
-    reached_under (map meaning xs) n few
-    ∙ slice_get-get_or (map meaning xs) n (meaning x) (omega arith)
-    ∙ ap Some (get_or-map meaning xs n x (meaning x) inside ∙ ap meaning (sym item))
-
-pub limits_same : (limits : Limits) (law : Meaning) → limits.compression ≡ law.compression → limits.tension ≡ law.tension → limits ≡ limits_of law
-limits_same limits law c t = rw (← c, ← t)
-
 -- ---- two kits joined
 
 nth_left : {X : Type 0} (xs ys : List X) (i : ℕ) → i < length xs → slice_get (xs ++ ys) i ≡ slice_get xs i

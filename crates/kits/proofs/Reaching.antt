@@ -1,15 +1,15 @@
 -- What the number, the limits and the search of a kit give.
-use Rattle.std.proofs.Common.{◌≡◌, ℕ, List, ℤ, pos, negsuc, neg_ℤ, ◌≤ℤ◌, ◌<ℤ◌, Some, None, Option, unwrap_or, sym, refl, ap, ◌∙◌, subst, arith}
-use Rattle.std.specs.Option.{option_map}
+use Rattle.std.proofs.Common.{◌≡◌, ℕ, List, ℤ, pos, negsuc, neg_ℤ, ◌≤ℤ◌, ◌<ℤ◌, Some, None, Option, unwrap_or, inr, sym, refl, ap, ◌∙◌, subst, arith}
+use Rattle.std.specs.Option.{option_map, ok_or}
 use Rattle.std.specs.List.{AllByRecursion}
 use Rattle.std.proofs.lemmas.Int.{ints}
 use Rattle.refusal.specs.declared.Refusal.TheVariants.{OutOfReach}
 use Rattle.laws.specs.Meaning.{Meaning, Lawful, Limit}
 use Rattle.laws.specs.declared.law.Limits.{Limits}
-use Rattle.search.specs.Points.{Least, Nowhere}
+use Rattle.search.specs.Points.{Least, Nowhere, LeastOrNone}
 use Rattle.kits.specs.Kits.{counted, numbered, stress_of, limits_of, limits_at}
 use Rattle.kits.specs.KitsLawful.{Sound, reached_sound, stress_or_zero}
-use Rattle.kits.specs.Reach.{NumberTaken, StressReached, StressRefused, shortest, longest}
+use Rattle.kits.specs.Reach.{NumberTaken, Reaches, StressReached, StressRefused, shortest, longest}
 use Rattle.kits.proofs.Numbering.{reached_some, reached_none}
 
 -- ---- the number
@@ -55,17 +55,22 @@ module _ (laws : List Meaning) (number : ℤ) (n : ℕ) (taken : NumberTaken law
     to : last ≡ longest taken.law
     to = last_is ∙ ap (λ l. pos l.tension) limits_are
 
-    pub least_reached : (strain : ℤ) → Least (λ x. stress ≤ℤ stress_or_zero laws n x) first last strain → StressReached laws number stress strain
+    least_reached : (strain : ℤ) → Least (λ x. stress ≤ℤ stress_or_zero laws n x) first last strain → StressReached laws number stress strain
     least_reached strain h = record {
       law = taken.law;
       law_is = law_numbered;
       least = rw (← from, ← to) (subst (λ o. Least (λ x. stress ≤ℤ unwrap_or (option_map (stress_of x) o) (pos 0)) first last strain) taken.law_is h);
     }
 
-    pub nowhere_reached : Nowhere (λ x. stress ≤ℤ stress_or_zero laws n x) first last → StressRefused laws number stress OutOfReach
+    nowhere_reached : Nowhere (λ x. stress ≤ℤ stress_or_zero laws n x) first last → StressRefused laws number stress OutOfReach
     nowhere_reached h = record {
       law = taken.law;
       law_is = law_numbered;
       nowhere = rw (← from, ← to) (subst (λ o. Nowhere (λ x. stress ≤ℤ unwrap_or (option_map (stress_of x) o) (pos 0)) first last) taken.law_is h);
       says = record { number_is = refl; places_are = refl };
     }
+
+    -- what the search finds is the answer, and where it finds none, no strain reaches the stress
+    pub reach_answer : (found : Option ℤ) → LeastOrNone (λ x. stress ≤ℤ stress_or_zero laws n x) first last found → Reaches laws number stress (ok_or found OutOfReach)
+    reach_answer (Some strain) h = least_reached strain h
+    reach_answer None h = inr (nowhere_reached h)

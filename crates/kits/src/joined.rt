@@ -11,6 +11,30 @@ use laws::law::Limits;
 #[derive(Drop)]
 pub struct Joined<First, Second>(pub First, pub Second);
 
+// A number of the joined kit as the number of one of the two.
+enum Side {
+    First(usize),
+    Second(usize),
+}
+
+impl<First: Kit, Second: Kit> Joined<First, Second> {
+    ghost use Rattle.kits.specs.Joined.{OnSide};
+
+    // Whose law the number reaches, if it can reach one.
+    fn side(&self, number: usize) -> Option<Side>
+        ensures { OnSide (First.Kit.laws self.now.0) (Second.Kit.laws self.now.1) number result }
+    {
+        let first = self.0.count() as usize;
+        if number < first {
+            Some(Side::First(number))
+        } else if number < MOST_LAWS {
+            Some(Side::Second(number - first))
+        } else {
+            None
+        }
+    }
+}
+
 impl<First: Kit, Second: Kit> Kit for Joined<First, Second> {
     ghost laws = { joined_laws First.Kit.laws Second.Kit.laws };
 
@@ -21,24 +45,16 @@ impl<First: Kit, Second: Kit> Kit for Joined<First, Second> {
     }
 
     fn stress(&self, number: usize, strain: i32) -> Option<i32> {
-        let first = self.0.count() as usize;
-        if number < first {
-            self.0.stress(number, strain)
-        } else if number < MOST_LAWS {
-            self.1.stress(number - first, strain)
-        } else {
-            None
+        match self.side(number)? {
+            Side::First(own) => self.0.stress(own, strain),
+            Side::Second(own) => self.1.stress(own, strain),
         }
     }
 
     fn limits(&self, number: usize) -> Option<Limits> {
-        let first = self.0.count() as usize;
-        if number < first {
-            self.0.limits(number)
-        } else if number < MOST_LAWS {
-            self.1.limits(number - first)
-        } else {
-            None
+        match self.side(number)? {
+            Side::First(own) => self.0.limits(own),
+            Side::Second(own) => self.1.limits(own),
         }
     }
 }

@@ -1,9 +1,21 @@
 // A list of laws of one type as a kit.
-ghost use Rattle.std.specs.Prelude.{map};
+ghost use Rattle.std.specs.Prelude.{◌≡◌, map, Some, None, MatchOption};
+ghost use Rattle.kits.specs.Kits.{reached as reached_of};
 ghost use Rattle.kits.specs.KitsLawful.{map_lawful};
 
 use crate::kit::{Kit, MOST_LAWS};
 use laws::law::{Law, Limits};
+
+// The law of a number, if the number reaches one.
+fn reached<L: Law>(laws: &[L], number: usize) -> Option<&L>
+    ensures { MatchOption result (reached_of (map L.meaning laws.now) number ≡ None) (λ law. reached_of (map L.meaning laws.now) number ≡ Some (L.meaning law.now)) }
+{
+    if number < MOST_LAWS {
+        laws.get(number)
+    } else {
+        None
+    }
+}
 
 // A law has its place in the list as its number.
 impl<L: Law> Kit for Vec<L> {
@@ -16,18 +28,10 @@ impl<L: Law> Kit for Vec<L> {
     }
 
     fn stress(&self, number: usize, strain: i32) -> Option<i32> {
-        if number < self.count() as usize {
-            Some(self[number].stress(strain))
-        } else {
-            None
-        }
+        Some(reached(self, number)?.stress(strain))
     }
 
     fn limits(&self, number: usize) -> Option<Limits> {
-        if number < self.count() as usize {
-            Some(self[number].limits())
-        } else {
-            None
-        }
+        Some(reached(self, number)?.limits())
     }
 }

@@ -59,8 +59,5 @@ pub fn reach<K: Kit>(kit: &K, number: i64, stress: i32) -> Result<i32, Refusal>
         return Err(Refusal::NoLaw);
     };
     let (first, last) = ends(limits);
-    match least(&KitStress { kit, number }, first, last, stress as i64) {
-        Some(strain) => Ok(strain),
-        None => Err(Refusal::OutOfReach),
-    }
+    least(&KitStress { kit, number }, first, last, stress as i64).ok_or(Refusal::OutOfReach)
 }

@@ -41,13 +41,11 @@ impl Law for Step {
 
 // Each law's height is its number.
 fn steps(heap: Global, count: u16) -> Result<Vec<Step>, AllocError> {
-    let mut laws = Vec::new(heap);
-    for number in 0..count {
-        laws.push(Step {
+    (0..count)
+        .map(|number| Step {
             height: number as u32,
-        })?;
-    }
-    Ok(laws)
+        })
+        .collect(heap)
 }
 
 fn at(strain: i64, stress: i64) -> Point {
@@ -119,11 +117,7 @@ fn long_lists(rt: HostRuntime) -> Result<(), Fail> {
         let reached = count.min(255);
         assert_eq!(rt; kit.count() as u16, reached);
         for number in [253, 254, 255, 299] {
-            let stress = if number < reached {
-                Some(number as i32)
-            } else {
-                None
-            };
+            let stress = (number < reached).then_some(number as i32);
             assert_eq!(rt; kit.stress(number as usize, 10), stress);
             assert_eq!(rt; kit.limits(number as usize).is_some(), number < reached);
         }

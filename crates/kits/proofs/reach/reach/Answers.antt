@@ -1,6 +1,6 @@
-use Rattle.std.proofs.Common.{refl, inr, arith, w32, w64, SFits}
+use Rattle.std.proofs.Common.{refl, arith, w64, SFits}
 use Rattle.std.proofs.lemmas.Int.{ints, to_z-of_z}
-use Rattle.kits.proofs.Reaching.{never_none, limits_in, least_reached, nowhere_reached}
+use Rattle.kits.proofs.Reaching.{never_none, limits_in, reach_answer}
 use Rattle.kits.proofs.reach.reach.Goals as goal
 
 pub ends-first-requires : goal.ends-first-requires
@@ -11,20 +11,6 @@ ends-first-requires g c =
     let l = limits_in (g.K.Kit.laws k) c.args.number _ taken c.in-Some.limits _ c.in-Some.ensures refl (g.K.Kit.lawful k) in
     record { compression = l.0; tension = l.1 }
 
-pub returns-in-Some-least : goal.returns-in-Some-least
-returns-in-Some-least g c =
-    let k = c.args.kit.now in
-    let f = c.ranges.number in
-    let taken = simp to_z-of_z at c.in_ok-number.ensures in
-    let l = limits_in (g.K.Kit.laws k) c.args.number _ taken c.in-Some.limits _ c.in-Some.ensures refl (g.K.Kit.lawful k) in
-    let t = c.ranges.stress in
-    let t64 : SFits w64 c.args.stress = omega (arith, ints) in
-    let found = simp to_z-of_z at c.in-Some-least.ensures.found in
-    let from = found.from in
-    let to = found.to in
-    let s : SFits w32 c.in-Some-least.strain = omega (arith, ints) in
-    simp to_z-of_z (least_reached (g.K.Kit.laws k) c.args.number _ taken c.in-Some.limits _ c.in-Some.ensures refl c.args.stress _ _ (omega (arith, ints)) (omega (arith, ints)) c.in-Some-least.strain found)
-
 pub returns-in_default : goal.returns-in_default
 returns-in_default g c =
     let k = c.args.kit.now in
@@ -32,13 +18,13 @@ returns-in_default g c =
     let taken = simp to_z-of_z at c.in_ok-number.ensures in
     absurd (never_none (g.K.Kit.laws k) c.args.number _ taken c.in_default.ensures)
 
-pub returns-in-None : goal.returns-in-None
-returns-in-None g c =
+pub returns : goal.returns
+returns g c =
     let k = c.args.kit.now in
     let f = c.ranges.number in
-    let taken = simp to_z-of_z at c.in_ok-number.ensures in
-    let l = limits_in (g.K.Kit.laws k) c.args.number _ taken c.in-Some.limits _ c.in-Some.ensures refl (g.K.Kit.lawful k) in
     let t = c.ranges.stress in
     let t64 : SFits w64 c.args.stress = omega (arith, ints) in
-    let nowhere = simp to_z-of_z at c.in-None.ensures.found in
-    inr (nowhere_reached (g.K.Kit.laws k) c.args.number _ taken c.in-Some.limits _ c.in-Some.ensures refl c.args.stress _ _ (omega (arith, ints)) (omega (arith, ints)) nowhere)
+    let taken = simp to_z-of_z at c.in_ok-number.ensures in
+    let l = limits_in (g.K.Kit.laws k) c.args.number _ taken c.in-Some.limits _ c.in-Some.ensures refl (g.K.Kit.lawful k) in
+    let found = simp to_z-of_z at c.least.ensures.found in
+    rw c.ok_or.ensures.value (reach_answer (g.K.Kit.laws k) c.args.number _ taken c.in-Some.limits _ c.in-Some.ensures refl c.args.stress _ _ (omega (arith, ints)) (omega (arith, ints)) c.least.result found)
