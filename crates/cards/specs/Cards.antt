@@ -1,5 +1,5 @@
 -- What a check and a reduction make of a card, and what they refuse.
-use Rattle.std.specs.Prelude.{◌≡◌, ℕ, ◌*◌, ◌/◌, ◌≤◌, T, List, [], ◌∷◌, map, ℤ, pos, ◌≤ℤ◌, unsigned_abs, Float}
+use Rattle.std.specs.Prelude.{◌≡◌, ℕ, ◌*◌, ◌/◌, T, List, [], ◌∷◌, map, ℤ, pos, ◌≤ℤ◌, unsigned_abs, Float}
 use Rattle.std.specs.List.{AllByRecursion}
 use Rattle.refusal.specs.First.{FirstOut}
 use Rattle.refusal.specs.Refusals.{Says}

@@ -4,7 +4,7 @@ ghost use Rattle.laws.specs.Meaning.{Limit};
 
 use laws::law::Limits;
 
-// The greatest stresses of a two-line law, in psi.
+// The greatest stresses of a two-line law, in psi. Limits has the same two names, in nano: as one type, a stress could be put for a strain.
 #[derive(Clone, Copy, PartialEq, Eq, Debug)]
 pub struct Plateaus {
     pub compression: u32,

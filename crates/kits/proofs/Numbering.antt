@@ -1,12 +1,11 @@
 -- The laws that the numbers of a kit reach, and those of two kits joined.
-use Rattle.std.proofs.Common.{◌≡◌, ℕ, zero, suc, ◌+◌, ◌<◌, ◌≤◌, min, cond, ltb, List, [], ◌∷◌, ◌++◌, map, length, get_or, Some, None, sym, refl, ap, ◌∙◌, ⊎_elim, arith}
+use Rattle.std.proofs.Common.{◌≡◌, ℕ, zero, suc, ◌+◌, ◌<◌, ◌≤◌, min, cond, ltb, List, [], ◌∷◌, ◌++◌, length, get_or, Some, None, sym, refl, ap, ◌∙◌, ⊎_elim, arith}
 use Rattle.std.specs.List.{slice_get}
-use Rattle.std.proofs.lemmas.List.{length-append, length-map, get_or-map}
+use Rattle.std.proofs.lemmas.List.{length-append}
 use Rattle.std.proofs.lemmas.Option.{slice_get-get_or, slice_get_past}
 use Rattle.std.proofs.lemmas.Bool.{lt-ltb, le-ltb, cond-true, cond-false, cases_lt}
 use Rattle.laws.specs.Meaning.{Meaning}
-use Rattle.laws.specs.declared.law.Limits.{Limits}
-use Rattle.kits.specs.Kits.{counted, reached, limits_of}
+use Rattle.kits.specs.Kits.{counted, reached}
 use Rattle.kits.specs.Joined.{JoinedLaws}
 
 reached_under : (laws : List Meaning) (n : ℕ) → n < 255 → reached laws n ≡ slice_get laws n

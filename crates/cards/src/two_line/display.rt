@@ -5,7 +5,7 @@ ghost use Rattle.cards.specs.Written.{plateaus_line, two_line_line};
 use super::{Plateaus, TwoLine};
 use std::fmt;
 
-// Compression, then tension, one space between.
+// Compression, then tension, one space between: as Limits, whose type is another.
 impl fmt::Display for Plateaus {
     ghost output = { λ x. Some (plateaus_line x) };
 

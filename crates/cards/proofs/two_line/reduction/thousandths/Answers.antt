@@ -1,13 +1,13 @@
-use Rattle.std.proofs.Common.{◌*◌, ◌≤◌, refl, mul-le-mul_right, arith}
+use Rattle.std.proofs.Common.{refl, mul-le-mul_right, arith}
 use Rattle.cards.proofs.two_line.reduction.thousandths.Goals as goal
 
 pub overflow_cast-result-3 : goal.overflow_cast-result-3
 overflow_cast-result-3 c =
-    let h : c.args.factor.number * c.args.n ≤ 850 * c.args.n = mul-le-mul_right c.args.n c.args.factor.most in
+    let h = mul-le-mul_right c.args.n c.args.factor.most in
     omega arith
 
 pub returns : goal.returns
 returns c =
-    let h : c.args.factor.number * c.args.n ≤ 850 * c.args.n = mul-le-mul_right c.args.n c.args.factor.most in
-    let l : 1 * c.args.n ≤ c.args.factor.number * c.args.n = mul-le-mul_right c.args.n c.args.factor.least in
+    let h = mul-le-mul_right c.args.n c.args.factor.most in
+    let l = mul-le-mul_right c.args.n c.args.factor.least in
     record { value = refl; bound = omega arith; some = λ k. omega arith }

@@ -1,7 +1,7 @@
-use Rattle.std.proofs.Common.{◌≡◌, List, None, vec_items, refl, subst, rules}
+use Rattle.std.proofs.Common.{◌≡◌, List, None, subst}
 use Rattle.std.specs.List.{AllByRecursion}
 use Rattle.laws.specs.declared.point.Point.{Point}
-use Rattle.laws.specs.Points.{Sound, after, PointLawForm}
+use Rattle.laws.specs.Points.{Sound, after}
 use Rattle.laws.proofs.Points.{point_shape, all_pass_from_all}
 use Rattle.laws.proofs.point_law.PointLaw.new.Goals as goal
 
