@@ -1,5 +1,5 @@
 -- The figures of each kind of card, in their order.
-use Rattle.std.specs.Prelude.{List, [], ◌∷◌, map}
+use Rattle.std.specs.Prelude.{List, [], ◌∷◌, map, Float}
 use Rattle.cards.specs.declared.figures.Figure.{Figure}
 use Rattle.cards.specs.declared.figures.Figure.TheVariants.{Modulus, UhpcStrength, Cracking, Strain, Localization, DeckStrength, Yielding}
 use Rattle.cards.specs.declared.written.UhpcFigures.{UhpcFigures}
@@ -36,3 +36,7 @@ module _ {N : Type 0} where
 
   abbrev pub steel_numbers : SteelFigures N → List N
   steel_numbers f = numbers (steel_figures f)
+
+-- as an engineer writes it
+abbrev pub WrittenCard : Type 0
+WrittenCard = Figures Float

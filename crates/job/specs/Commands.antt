@@ -1,9 +1,8 @@
 -- How a command is written: its word, then numbers as f64's parse takes them, then whole numbers.
 use Rattle.std.specs.Prelude.{◌≡◌, ℕ, ◌%◌, ◌≤◌, List, [], ◌∷◌, map, take, drop, ℤ, vec_items, Float}
 use Rattle.laws.specs.declared.point.Point.{Point}
-use Rattle.cards.specs.declared.written.WrittenCard.{WrittenCard}
-use Rattle.cards.specs.declared.written.WrittenCard.TheVariants.{Uhpc as UhpcCard, Deck as DeckCard, Steel as SteelCard}
-use Rattle.cards.specs.Cards.{figures}
+use Rattle.cards.specs.declared.written.Figures.TheVariants.{Uhpc as UhpcCard, Deck as DeckCard, Steel as SteelCard}
+use Rattle.cards.specs.Kinds.{WrittenCard, figures}
 use Rattle.job.specs.Forms.{spelling}
 use Rattle.job.specs.Numbers.{Real, Whole, Pairwise}
 use Rattle.job.specs.declared.command.Command.{Command}

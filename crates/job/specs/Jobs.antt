@@ -8,10 +8,10 @@ use Rattle.laws.specs.Points.{PointsTaken, PointsRefused}
 use Rattle.laws.specs.declared.point_law.PointLaw.{PointLaw}
 use Rattle.kits.specs.Kits.{stress_of, numbered}
 use Rattle.kits.specs.Reach.{Reaches}
-use Rattle.cards.specs.declared.written.WrittenCard.{WrittenCard}
-use Rattle.cards.specs.declared.whole.WholeFigures.{WholeFigures}
+use Rattle.cards.specs.declared.written.Figures.{Figures}
 use Rattle.cards.specs.declared.two_line.TwoLine.{TwoLine}
-use Rattle.cards.specs.Cards.{figures, whole_figures, Checked, FigureRefused, Reduced, FactorRefused}
+use Rattle.cards.specs.Kinds.{WrittenCard, figures}
+use Rattle.cards.specs.Cards.{Checked, FigureRefused, Reduced, FactorRefused}
 use Rattle.words.specs.Words.{WordsOf}
 use Rattle.job.specs.Commands.{card_name, Spells}
 use Rattle.job.specs.Faults.{Faulty}
@@ -27,15 +27,15 @@ use Rattle.job.specs.declared.printed.Printed.TheVariants.{Answered, Refused, Un
 
 -- the law is that of the card, checked and reduced by these factors
 pub record Makes (card : WrittenCard) (alpha gamma : ℤ) (law : TwoLine) : Type 0 where
-  pub whole : WholeFigures
-  pub checked : Checked (figures card) (whole_figures whole)
+  pub whole : Figures ℕ
+  pub checked : Checked (figures card) (figures whole)
   pub reduced : Reduced alpha gamma whole law
 
 -- a figure is refused, or, where none is, a factor
 abbrev pub MakesNone : WrittenCard → ℤ → ℤ → Refusal → Type 0
 MakesNone card alpha gamma refusal =
     FigureRefused (figures card) refusal
-    ⊎ ((whole : WholeFigures) × Checked (figures card) (whole_figures whole) × FactorRefused alpha gamma refusal)
+    ⊎ ((whole : Figures ℕ) × Checked (figures card) (figures whole) × FactorRefused alpha gamma refusal)
 
 -- what the job's kit means
 abbrev pub kit_laws : List Material → List Meaning
