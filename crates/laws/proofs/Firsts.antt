@@ -1,5 +1,5 @@
 -- What a walk knows that looks for the first of a list to fail a test.
-use Rattle.std.proofs.Common.{◌≡◌, ℕ, suc, ◌+◌, List, ◌∷◌, subst, add-zero, zero-add, arith}
+use Rattle.std.proofs.Common.{◌≡◌, ℕ, suc, ◌+◌, List, ◌∷◌, subst, add-zero, arith}
 use Rattle.std.specs.List.{AllByRecursion}
 use Rattle.refusal.specs.First.{FirstOut}
 
@@ -9,9 +9,6 @@ pub record Passed {X : Type 0} (Passes : X → Type 0) (list rest : List X) (n :
   pub first : (k : ℕ) → FirstOut Passes rest k → FirstOut Passes list (n + k)
 
 module _ {X : Type 0} (Passes : X → Type 0) (list : List X) where
-  pub passed_none : Passed Passes list list 0
-  passed_none = record { all = λ h. h; first = λ k h. rw zero-add h }
-
   pub passed_more : (x : X) (rest : List X) (n : ℕ) → Passed Passes list (x ∷ rest) n → Passes x → Passed Passes list rest (n + 1)
   passed_more x rest n known h = record {
     all = λ more. known.all (h, more);

@@ -68,15 +68,6 @@ module _ {p q : Point} {z : ℤ} (s : Start p q z) where
   abbrev held_sum : ℤ
   held_sum = held p.stress +ℤ held held_quotient
 
-  pub held_rise_fits : SFits w64 held_rise
-  held_rise_fits = omega (arith, ints)
-
-  pub held_way_fits : SFits w64 held_way
-  held_way_fits = omega (arith, ints)
-
-  pub held_run_fits : SFits w64 held_run
-  held_run_fits = omega (arith, ints)
-
   pub held_run_some : 0 < of_z w64 held_run
   held_run_some = omega (arith, ints)
 

@@ -1,11 +1,11 @@
 -- What the walk over the neighbours knows between two turns.
-use Rattle.std.proofs.Common.{◌≡◌, ℕ, ◌+◌, ◌-◌, ◌<◌, ◌≤◌, Bool, true, false, T, List, [], ◌∷◌, length, get_or, take, drop, ℤ, ◌≤ℤ◌, ◌<ℤ◌, Some, sym, ap, ◌∙◌, subst, arith, w64, SFits, to_z, of_z}
+use Rattle.std.proofs.Common.{◌≡◌, ℕ, ◌+◌, ◌<◌, Bool, true, false, T, List, ◌∷◌, length, get_or, drop, ℤ, ◌≤ℤ◌, ◌<ℤ◌, Some, ◌∙◌, subst, arith, w64, SFits, to_z, of_z}
 use lib.Signed.{lt_z}
-use Rattle.std.proofs.lemmas.List.{drop_more, drop_all, take_rest}
+use Rattle.std.proofs.lemmas.List.{drop_more}
 use Rattle.std.proofs.lemmas.Int.{ints}
 use Rattle.laws.specs.declared.point.Point.{Point}
-use Rattle.laws.specs.Points.{line, onward, point_stress, in_range, Sound, all_sound, Spans}
-use Rattle.laws.specs.PointsLawful.{ranged, sound_range, Chain, chain_sound, chain_rest, first_range, first_chain, onward_line, onward_past, stress_onward}
+use Rattle.laws.specs.Points.{line, onward, point_stress, in_range, Sound, Spans}
+use Rattle.laws.specs.PointsLawful.{ranged, sound_range, Chain, chain_sound, chain_rest, onward_line, onward_past}
 
 -- the strain is not below the point p, from which on only what follows it counts
 pub record Past (points : List Point) (strain : ℤ) (p : Point) (rest : List Point) : Type 0 where
@@ -24,16 +24,6 @@ module _ (z : ℤ) (p : Point) (fits : SFits w64 z) (range : T (in_range p)) whe
 
   below_false : below z p ≡ false → p.strain ≤ℤ z
   below_false e = let r = ranged p range in omega (arith, ints)
-
-past_first : (points : List Point) (z : ℤ) (d : Point) → 1 ≤ length points → T (all_sound points) → SFits w64 z → below z (get_or points 0 d) ≡ false → Past points z (get_or points 0 d) (drop 1 points)
-past_first [] z d some all fits e = absurd (omega arith)
-past_first (p ∷ rest) z d some all fits e =
-    let r = first_range p rest all in
-    let h = below_false z p fits r e in
-    record { reached = h; range = r; chain = first_chain p rest all; same = stress_onward p rest z h }
-
-pub past_start : (points : List Point) (z : ℤ) (d : Point) → 1 ≤ length points → T (all_sound points) → SFits w64 z → below z (get_or points 0 d) ≡ false → Past points z (get_or points 0 d) (take (length points - 1) (drop 1 points))
-past_start points z d some all fits e = rw (take_rest points 1) (past_first points z d some all fits e)
 
 -- at the next point of the list that is walked
 module _ {points : List Point} {z : ℤ} {p : Point} (list : List Point) (i : ℕ) (d : Point) (inside : i < length list) (known : Past points z p (drop i list)) (fits : SFits w64 z) where
@@ -64,10 +54,3 @@ module _ {points : List Point} {z : ℤ} {p : Point} (list : List Point) (i : �
         chain = chain_rest p here (drop (i + 1) list) at_here.chain;
         same = at_here.same ∙ onward_past p here (drop (i + 1) list) z h;
       }
-
-module _ {points : List Point} {z : ℤ} {p : Point} (list : List Point) (i : ℕ) (out : length list ≤ i) (known : Past points z p (drop i list)) where
-  pub past_last : p.stress ≡ point_stress points z
-  past_last = sym (known.same ∙ ap (λ l. onward p l z) (drop_all i list out))
-
-  pub last_fits : SFits w64 p.stress
-  last_fits = let r = ranged p known.range in omega (arith, ints)

@@ -1,6 +1,5 @@
 use Rattle.std.proofs.Common.{T, List, None, sym, subst}
-use Rattle.std.specs.List.{AllByRecursion}
-use Rattle.std.proofs.lemmas.List.{drop_more, drop_all}
+use Rattle.std.proofs.lemmas.List.{drop_more}
 use Rattle.laws.specs.declared.point.Point.{Point}
 use Rattle.laws.specs.Points.{Sound, after}
 use Rattle.laws.proofs.Firsts.{Passed, passed_more, passed_out}
@@ -21,9 +20,3 @@ loop-place-preserved c =
     let P : List Point → Type 0 = λ ps. Passed Sound (after None points) (after c.loop-place.before ps) place in
     let at = subst P (drop_more points place _ c.loop-place-test.true) c.loop-place.invariant in
     passed_more Sound _ _ _ place at (subst T c.if-not-is_sound.ensures tt)
-
-pub returns : goal.returns
-returns c =
-    let points = c.args.points.now in
-    let P : List Point → Type 0 = λ ps. AllByRecursion Sound (after c.loop-place.before ps) in
-    c.loop-place.invariant.all (subst P (sym (drop_all c.loop-place.place points c.loop-place-test.false)) tt)

@@ -1,17 +1,8 @@
-use Rattle.laws.proofs.Interpolation.{start, held_rise_fits, held_way_fits, held_product_fits, held_run_fits, held_run_some, held_quotient_fits, held_sum_fits, held_sum_is}
+use Rattle.laws.proofs.Interpolation.{start, held_product_fits, held_run_some, held_quotient_fits, held_sum_fits, held_sum_is}
 use Rattle.laws.proofs.point_law.law.interpolate.Goals as goal
-
-pub overflow_sub-result : goal.overflow_sub-result
-overflow_sub-result c = held_rise_fits (start c.requires)
-
-pub overflow_sub-result-2 : goal.overflow_sub-result-2
-overflow_sub-result-2 c = held_way_fits (start c.requires)
 
 pub overflow_mul-result : goal.overflow_mul-result
 overflow_mul-result c = held_product_fits (start c.requires)
-
-pub overflow_sub-result-3 : goal.overflow_sub-result-3
-overflow_sub-result-3 c = held_run_fits (start c.requires)
 
 pub nonzero_div-result : goal.nonzero_div-result
 nonzero_div-result c = (held_run_some (start c.requires), held_quotient_fits (start c.requires))

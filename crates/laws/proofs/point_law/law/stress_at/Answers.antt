@@ -1,11 +1,8 @@
 use Rattle.std.proofs.Common.{sym, ◌∙◌, w64, SFits}
 use borrow.Author.Rules.{sfits_of}
 use Rattle.std.proofs.lemmas.Int.{to_z-of_z}
-use Rattle.laws.proofs.Walk.{past_start, here_spans, here_line, past_more, past_last, last_fits}
+use Rattle.laws.proofs.Walk.{here_spans, here_line, past_more}
 use Rattle.laws.proofs.point_law.law.stress_at.Goals as goal
-
-pub loop-point-init : goal.loop-point-init
-loop-point-init c = let f = c.ranges.strain in simp to_z-of_z (past_start _ _ _ c.requires.some c.requires.sound f c.if-strain-before.false)
 
 pub interpolate-requires : goal.interpolate-requires
 interpolate-requires c =
@@ -26,10 +23,3 @@ loop-point-preserved c =
     let f = c.ranges.strain in
     let known = simp to_z-of_z at c.loop-point.invariant in
     simp to_z-of_z (past_more _ _ _ c.loop-point-test.true known f c.if-strain-point.false)
-
-pub returns : goal.returns
-returns c =
-    let f = c.ranges.strain in
-    let known = simp to_z-of_z at c.loop-point.invariant in
-    let s = last_fits _ _ c.loop-point-test.false known in
-    simp to_z-of_z (past_last _ _ c.loop-point-test.false known)
