@@ -23,15 +23,10 @@ fn answer<R: Read + Drop>(rt: &HostRuntime, input: R) -> anyhow::Result<bool> {
     let heap = rt.alloc();
     let mut job = Job::new(heap);
     let mut all_read = true;
-    let mut number: u64 = 0;
-    for line in BufReader::new(heap, input)?.split(heap, b'\n') {
-        let line = line?;
-        number = number.saturating_add(1);
-        if let Some(printed) = job.line(heap, number, &line)? {
+    for (number, line) in (1u64..).zip(BufReader::new(heap, input)?.split(heap, b'\n')) {
+        if let Some(printed) = job.line(heap, number, &line?)? {
             print(rt, number, printed)?;
-            if let Printed::Unreadable { .. } = printed {
-                all_read = false;
-            }
+            all_read = all_read && !matches!(printed, Printed::Unreadable { .. });
         }
     }
     Ok(all_read)
