@@ -6,7 +6,6 @@ use Rattle.std.proofs.lemmas.Option.{slice_get-get_or, slice_get_past}
 use Rattle.std.proofs.lemmas.Bool.{lt-ltb, le-ltb, cond-true, cond-false, cases_lt}
 use Rattle.laws.specs.Meaning.{Meaning}
 use Rattle.kits.specs.Kits.{counted, reached}
-use Rattle.kits.specs.Joined.{JoinedLaws}
 
 reached_under : (laws : List Meaning) (n : ℕ) → n < 255 → reached laws n ≡ slice_get laws n
 reached_under laws n h = cond-true (ltb n 255) (slice_get laws n) None (lt-ltb n 255 h)
@@ -51,11 +50,3 @@ module _ (first second : List Meaning) where
 
   pub counted_joined : counted (first ++ second) ≡ min 255 (counted first + counted second)
   counted_joined = simp length-append (omega arith)
-
-  pub joined_facts : JoinedLaws first second (first ++ second)
-  joined_facts = record {
-    laws_are = refl;
-    count_is = counted_joined;
-    first_keep = reached_first;
-    second_follow = λ n few. reached_second (counted first + n) n refl few;
-  }

@@ -27,12 +27,6 @@ pub numbered_past : (laws : List Meaning) (number : ℤ) → pos (counted laws) 
 numbered_past laws (pos n) h = reached_none laws n (omega (arith, ints))
 numbered_past laws (negsuc n) h = refl
 
--- a number that was taken has limits
-pub never_none : (laws : List Meaning) (number : ℤ) (n : ℕ) → NumberTaken laws number n → None ≡ limits_at laws n → ⊥
-never_none laws number n taken none =
-    let e : ◌≡◌ {A = Option Limits} None (Some (limits_of taken.law)) = none ∙ ap (option_map limits_of) taken.law_is in
-    let z : ◌≡◌ {A = ℕ} 0 1 = cc in omega arith
-
 -- ---- the law of a number that was taken, and the limits that were read by it
 
 module _ (laws : List Meaning) (number : ℤ) (n : ℕ) (taken : NumberTaken laws number n)

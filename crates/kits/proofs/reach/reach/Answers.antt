@@ -1,6 +1,6 @@
 use Rattle.std.proofs.Common.{refl, arith, w64, SFits}
 use Rattle.std.proofs.lemmas.Int.{ints, to_z-of_z}
-use Rattle.kits.proofs.Reaching.{never_none, limits_in, reach_answer}
+use Rattle.kits.proofs.Reaching.{limits_in, reach_answer}
 use Rattle.kits.proofs.reach.reach.Goals as goal
 
 pub ends-first-requires : goal.ends-first-requires
@@ -10,13 +10,6 @@ ends-first-requires g c =
     let taken = simp to_z-of_z at c.in_ok-number.ensures in
     let l = limits_in (g.K.Kit.laws k) c.args.number _ taken c.in-Some.limits _ c.in-Some.ensures refl (g.K.Kit.lawful k) in
     record { compression = l.0; tension = l.1 }
-
-pub returns-in_default : goal.returns-in_default
-returns-in_default g c =
-    let k = c.args.kit.now in
-    let f = c.ranges.number in
-    let taken = simp to_z-of_z at c.in_ok-number.ensures in
-    absurd (never_none (g.K.Kit.laws k) c.args.number _ taken c.in_default.ensures)
 
 pub returns : goal.returns
 returns g c =
