@@ -31,18 +31,6 @@ loop-bottom-preserved-then-at-target g c =
     let on = reaches_on c.args.target (g.Q.NeverFalls.rises c.args.quantity.now) c.requires.covered in
     simp to_z-of_z (between_upper _ c.args.low c.args.high _ _ c.halfway-middle.result k c.halfway-middle.ensures.from c.halfway-middle.ensures.below on (λ p. omega (arith, ints)))
 
-pub loop-bottom-preserved : goal.loop-bottom-preserved
-loop-bottom-preserved g c =
-    let l = c.ranges.low in
-    let h = c.ranges.high in
-    let t = c.ranges.target in
-    let m : SFits w32 c.halfway-middle.result = sfits_of c.halfway-middle.type_inv in
-    let r : SFits w64 c.at.result = sfits_of c.at.type_inv in
-    let k = simp to_z-of_z at c.loop-bottom.invariant in
-    let a = simp to_z-of_z at c.at.ensures in
-    let u = simp to_z-of_z at c.if-at-target.false in
-    simp to_z-of_z (between_lower _ c.args.low c.args.high _ _ c.halfway-middle.result k c.halfway-middle.ensures.from c.halfway-middle.ensures.below (omega (arith, ints)) _ (omega (arith, ints)))
-
 pub returns : goal.returns
 returns g c =
     let l = c.ranges.low in
