@@ -1,5 +1,5 @@
 -- The first of the highest values among the fibres before a position, and the range that a loop over them keeps.
-use Rattle.std.proofs.Common.{◌≡◌, ℕ, ◌+◌, ◌<◌, ◌≤◌, cond, List, length, ℤ, neg_ℤ, ◌≤ℤ◌, ◌<ℤ◌, Some, sym, subst, inl, inr, arith}
+use Rattle.std.proofs.Common.{◌≡◌, ℕ, ◌+◌, ◌<◌, ◌≤◌, cond, List, [], ◌∷◌, length, ℤ, neg_ℤ, ◌≤ℤ◌, ◌<ℤ◌, Some, None, Option, MatchOption, sym, refl, subst, inl, inr, arith}
 use lib.Signed.{lt_z}
 use Rattle.std.specs.List.{slice_get}
 use Rattle.std.proofs.lemmas.Option.{slice_get_past}
@@ -79,6 +79,10 @@ module _ (value : Fibre → ℤ) (fibres : List Fibre) where
     | inr k ↦ let n = slice_get_past fibres q (omega arith) in let z : ◌≡◌ {A = ℕ} 0 1 = cc in absurd (omega arith)
   ]
 
+none_left : (fibres : List Fibre) → length fibres ≤ 0 → fibres ≡ []
+none_left [] h = refl
+none_left (f ∷ fibres) h = absurd (omega arith)
+
 -- after i fibres, at least one
 pub record Narrowed (laws : List Meaning) (fibres : List Fibre) (curvature i : ℕ) (r : Range) : Type 0 where
   pub low : First (least_for laws curvature) fibres i r.least.top r.least.fibre
@@ -122,7 +126,7 @@ module _ (laws : List Meaning) (fibres : List Fibre) (curvature : ℕ) where
             (λ b. first_stays _ fibres i f own.stands (neg_ℤ r.greatest.top) turned_is r.greatest.fibre own.greatest_place _ _ known.high (omega (arith, ints))));
       }
 
-  pub narrowed_last : (i : ℕ) (r : Range) → length fibres ≤ i → Narrowed laws fibres curvature i r → SetsEnds laws fibres curvature r
+  narrowed_last : (i : ℕ) (r : Range) → length fibres ≤ i → Narrowed laws fibres curvature i r → SetsEnds laws fibres curvature r
   narrowed_last i r all known =
       let low = known.low in
       let high = known.high in
@@ -144,3 +148,9 @@ module _ (laws : List Meaning) (fibres : List Fibre) (curvature : ℕ) where
         };
         greatest_is = omega (arith, ints);
       }
+
+  -- past the last fibre
+  pub narrowed_all : (i : ℕ) → length fibres ≤ i → (r : Option Range) → MatchOption r (i ≡ 0) (Narrowed laws fibres curvature i)
+      → MatchOption r (fibres ≡ []) (SetsEnds laws fibres curvature)
+  narrowed_all i all None none = none_left fibres (omega arith)
+  narrowed_all i all (Some r) known = narrowed_last i r all known
