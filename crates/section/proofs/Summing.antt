@@ -2,10 +2,11 @@
 use Rattle.std.proofs.Common.{◌≡◌, ℕ, ◌+◌, ◌<◌, ◌≤◌, List, length, get_or, take, ℤ, pos, ◌+ℤ◌, ◌-ℤ◌, ◌*ℤ◌, Some, None, fold, Option, unwrap_or, vec_items, sym, refl, ap, ◌∙◌, subst, arith, take_all, w32, w64, SFits, to_z, of_z}
 use Rattle.std.specs.Option.{option_map}
 use Rattle.std.specs.List.{AllByRecursion}
-use Rattle.std.proofs.ByRecursion.{All-get_or, All-take}
 use Rattle.std.proofs.lemmas.Int.{ints, to_z-of_z}
 use Rattle.std.proofs.lemmas.List.{length-take}
+use Rattle.std.proofs.lemmas.List.Elements.{All-from_recursion, recursion_from_All, All-take}
 use Rattle.std.proofs.lemmas.List.Sums.{fold_more}
+use Rattle.std.proofs.lemmas.Option.{slice_get-get_or}
 use Rattle.laws.specs.Meaning.{Meaning, Lawful}
 use Rattle.kits.specs.Kits.{stress_of}
 use Rattle.section.specs.Fibres.{law_or_none, pull, Ranged}
@@ -14,6 +15,7 @@ use Rattle.section.specs.declared.fibre.Fibre.{Fibre}
 use Rattle.section.specs.declared.load.Load.{Load}
 use Rattle.section.specs.declared.plane.Plane.{Plane}
 use Rattle.section.specs.declared.row.Row.{Row}
+use Rattle.section.proofs.Limits.{all_nth}
 use Rattle.section.proofs.Bounds.{Within, lever, lever_small, load_within, total_within}
 
 -- the stress that a kit answers, or 0, is that of the fibre's law
@@ -48,7 +50,7 @@ module _ {K : Type 0} (row : Row K) (items : List Fibre) (same : items ≡ vec_i
   few = let e = ap length same in let f = row.few in omega arith
 
   pub item_ranged : (i : ℕ) (d : Fibre) → i < length items → Ranged (get_or items i d)
-  item_ranged i d inside = All-get_or Ranged items i d inside ranged
+  item_ranged i d inside = all_nth Ranged items ranged i _ (slice_get-get_or items i d inside)
 
   module _ (value : Fibre → ℤ) (each : (f : Fibre) → Ranged f → Within 2457600000000000 (value f))
       (i : ℕ) (sum : ℤ) (sum_is : sum ≡ fold (λ sum f. sum +ℤ value f) (pos 0) (take i (vec_items row.fibres))) where
@@ -61,7 +63,8 @@ module _ {K : Type 0} (row : Row K) (items : List Fibre) (same : items ≡ vec_i
 
       pub more_fits : SFits w64 (sum +ℤ to_z w64 (of_z w64 v))
       more_fits =
-          let w = total_within value each (take (i + 1) items) (All-take Ranged (i + 1) items ranged) (let l = length-take (i + 1) items in let f = few in omega arith) in
+          let front = recursion_from_All Ranged (take (i + 1) items) (All-take Ranged (i + 1) items (All-from_recursion Ranged items ranged)) in
+          let w = total_within value each (take (i + 1) items) front (let l = length-take (i + 1) items in let f = few in omega arith) in
           let e = more in
           rw (to_z-of_z w64 v fits) (omega (arith, ints))
 

@@ -3,5 +3,10 @@ use Rattle.std.proofs.lemmas.Int.{ints}
 use Rattle.std.proofs.lemmas.Nat.{mul-le}
 use Rattle.section.proofs.plane.Plane.strain.Goals as goal
 
+pub overflow_add-result-2 : goal.overflow_add-result-2
+overflow_add-result-2 c =
+    let s = c.args.self.now in let m = mul-le s.curvature c.args.fibre.now.depth 65535 4294967295 s.gentle (omega arith) in omega (arith, ints)
+
 pub returns : goal.returns
-returns c = let m = mul-le c.args.self.now.curvature c.args.fibre.now.depth 65535 4294967295 c.args.self.now.gentle (omega arith) in omega (arith, ints)
+returns c =
+    let s = c.args.self.now in let m = mul-le s.curvature c.args.fibre.now.depth 65535 4294967295 s.gentle (omega arith) in omega (arith, ints)

@@ -4,6 +4,9 @@ use Rattle.section.proofs.Bounds.{lever_small}
 use Rattle.section.proofs.Summing.{lever_taken, lever_fits, item_ranged, more_fits, more_is, total_is, sum_within, share_fits, rest_fits, rest_is}
 use Rattle.section.proofs.row.Row.moment.Goals as goal
 
+pub pull-requires : goal.pull-requires
+pull-requires g c = item_ranged c.args.self.now _ c.deref-fibre-items.ensures.value _ _ c.loop-fibre-test.true
+
 pub overflow_mul-sum : goal.overflow_mul-sum
 overflow_mul-sum g c =
     let s = c.args.self.now in

@@ -1,12 +1,19 @@
-use Rattle.std.proofs.Common.{◌≡◌, pos, ◌*ℤ◌, unwrap_or, ap, ◌∙◌, arith, w32, w64, SFits, to_z, of_z}
+use Rattle.std.proofs.Common.{pos, ◌*ℤ◌, unwrap_or, ap, ◌∙◌, arith, w32, w64, SFits, to_z, of_z}
 use borrow.Author.Rules.{sfits_of}
 use Rattle.std.proofs.lemmas.Int.{ints, to_z-of_z}
 use Rattle.laws.proofs.Whole.{scale_fits}
 use Rattle.kits.specs.Kits.{reached}
-use Rattle.section.specs.Fibres.{law_of, strain}
+use Rattle.section.specs.Fibres.{strain}
 use Rattle.section.specs.ForceRises.{strain_fits}
 use Rattle.section.proofs.Summing.{stress_is, product_is_whole}
 use Rattle.section.proofs.row.Row.pull.Goals as goal
+
+pub overflow_mul-result : goal.overflow_mul-result
+overflow_mul-result g c =
+    let f = c.args.fibre.now in
+    let z = c.unwrap_or-stress.result in
+    let s : SFits w32 z = sfits_of c.unwrap_or-stress.type_inv in
+    rw (product_is_whole f.area z c.requires.area_most s) (scale_fits f.area z (omega arith) s)
 
 pub returns : goal.returns
 returns g c =
