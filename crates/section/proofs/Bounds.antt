@@ -52,6 +52,9 @@ module _ (laws : List Meaning) (lawful : AllByRecursion Lawful laws) (p : Plane)
   lever_small f r = subst (Within 2457600000000000) (*ℤ_comm (pos f.depth) (pull laws p.curvature p.top f))
       (scaled_within f.depth 4096 600000000000 _ r.depth_most (pull_within f r))
 
+abbrev pub total : (Fibre → ℤ) → List Fibre → ℤ
+total value fibres = fold (λ sum f. sum +ℤ value f) (pos 0) fibres
+
 -- a sum over fibres, each of whose values is within a bound
 module _ (value : Fibre → ℤ) (each : (f : Fibre) → Ranged f → Within 2457600000000000 (value f)) where
   sum_within : (fibres : List Fibre) → AllByRecursion Ranged fibres → (from : ℕ) (a : ℤ) → Within from a
@@ -63,6 +66,6 @@ module _ (value : Fibre → ℤ) (each : (f : Fibre) → Ranged f → Within 245
       let r = sum_within fibres all.1 (from + 2457600000000000) (a +ℤ value f) (omega (arith, ints), omega (arith, ints)) in
       (omega (arith, ints), omega (arith, ints))
 
-  pub total_within : (fibres : List Fibre) → AllByRecursion Ranged fibres → length fibres ≤ 512 → Within 1258291200000000000 (fold (λ sum f. sum +ℤ value f) (pos 0) fibres)
+  pub total_within : (fibres : List Fibre) → AllByRecursion Ranged fibres → length fibres ≤ 512 → Within 1258291200000000000 (total value fibres)
   total_within fibres ranged few =
       let w = sum_within fibres ranged 0 (pos 0) (omega (arith, ints), omega (arith, ints)) in (omega (arith, ints), omega (arith, ints))

@@ -16,7 +16,7 @@ use Rattle.section.specs.declared.load.Load.{Load}
 use Rattle.section.specs.declared.plane.Plane.{Plane}
 use Rattle.section.specs.declared.row.Row.{Row}
 use Rattle.section.proofs.Limits.{all_nth}
-use Rattle.section.proofs.Bounds.{Within, lever, lever_small, load_within, total_within}
+use Rattle.section.proofs.Bounds.{Within, lever, lever_small, load_within, total, total_within}
 
 -- the stress that a kit answers, or 0, is that of the fibre's law
 pub stress_is : (o : Option Meaning) (e : ℤ) → unwrap_or (option_map (stress_of e) o) (pos 0) ≡ (law_or_none o).stress e
@@ -53,12 +53,12 @@ module _ {K : Type 0} (row : Row K) (items : List Fibre) (same : items ≡ vec_i
   item_ranged i d inside = all_nth Ranged items ranged i _ (slice_get-get_or items i d inside)
 
   module _ (value : Fibre → ℤ) (each : (f : Fibre) → Ranged f → Within 2457600000000000 (value f))
-      (i : ℕ) (sum : ℤ) (sum_is : sum ≡ fold (λ sum f. sum +ℤ value f) (pos 0) (take i (vec_items row.fibres))) where
+      (i : ℕ) (sum : ℤ) (sum_is : sum ≡ total value (take i (vec_items row.fibres))) where
     module _ (d : Fibre) (inside : i < length items) (v : ℤ) (fits : SFits w64 v) (v_is : v ≡ value (get_or items i d)) where
-      more : sum +ℤ v ≡ fold (λ sum f. sum +ℤ value f) (pos 0) (take (i + 1) items)
+      more : sum +ℤ v ≡ total value (take (i + 1) items)
       more =
-          ap (λ s. s +ℤ v) (sum_is ∙ ap (λ fs. fold (λ sum f. sum +ℤ value f) (pos 0) (take i fs)) (sym same))
-          ∙ ap (λ e. fold (λ sum f. sum +ℤ value f) (pos 0) (take i items) +ℤ e) v_is
+          ap (λ s. s +ℤ v) (sum_is ∙ ap (λ fs. total value (take i fs)) (sym same))
+          ∙ ap (λ e. total value (take i items) +ℤ e) v_is
           ∙ sym (fold_more (λ sum f. sum +ℤ value f) (pos 0) items i d inside)
 
       pub more_fits : SFits w64 (sum +ℤ to_z w64 (of_z w64 v))
@@ -68,17 +68,17 @@ module _ {K : Type 0} (row : Row K) (items : List Fibre) (same : items ≡ vec_i
           let e = more in
           rw (to_z-of_z w64 v fits) (omega (arith, ints))
 
-      pub more_is : to_z w64 (of_z w64 (sum +ℤ to_z w64 (of_z w64 v))) ≡ fold (λ sum f. sum +ℤ value f) (pos 0) (take (i + 1) (vec_items row.fibres))
+      pub more_is : to_z w64 (of_z w64 (sum +ℤ to_z w64 (of_z w64 v))) ≡ total value (take (i + 1) (vec_items row.fibres))
       more_is =
           to_z-of_z w64 _ more_fits ∙ ap (λ z. sum +ℤ z) (to_z-of_z w64 v fits) ∙ more
-          ∙ ap (λ fs. fold (λ sum f. sum +ℤ value f) (pos 0) (take (i + 1) fs)) same
+          ∙ ap (λ fs. total value (take (i + 1) fs)) same
 
     module _ (all : length items ≤ i) where
-      pub total_is : sum ≡ fold (λ sum f. sum +ℤ value f) (pos 0) (vec_items row.fibres)
-      total_is = sum_is ∙ ap (fold (λ sum f. sum +ℤ value f) (pos 0)) (take_all i (vec_items row.fibres) (let e = ap length same in omega arith))
+      pub total_is : sum ≡ total value (vec_items row.fibres)
+      total_is = sum_is ∙ ap (total value) (take_all i (vec_items row.fibres) (let e = ap length same in omega arith))
 
       pub sum_within : Within 1258291200000000000 sum
-      sum_within = subst (Within 1258291200000000000) (ap (fold (λ sum f. sum +ℤ value f) (pos 0)) same ∙ sym total_is) (total_within value each items ranged few)
+      sum_within = subst (Within 1258291200000000000) (ap (total value) same ∙ sym total_is) (total_within value each items ranged few)
 
 -- what is left of a sum once the load's share is taken off
 module _ (load : Load) where
