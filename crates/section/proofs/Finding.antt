@@ -1,6 +1,6 @@
 -- An ask comes to something: the fibres that set the range are found along the row, and the ends along the range.
-use Rattle.std.proofs.Common.{◌≡◌, ℕ, zero, suc, ◌<◌, ◌≤◌, List, [], ◌∷◌, ℤ, pos, ◌+ℤ◌, ◌-ℤ◌, neg_ℤ, nat_abs, ◌≤ℤ◌, ◌<ℤ◌, Some, Ok, Err, Result, sym, refl, subst, inl, inr, arith}
-use Rattle.std.specs.List.{AllByRecursion, slice_get}
+use Rattle.std.proofs.Common.{◌≡◌, ℕ, zero, suc, ◌≤◌, List, [], ◌∷◌, length, ℤ, pos, ◌+ℤ◌, ◌-ℤ◌, neg_ℤ, nat_abs, ◌≤ℤ◌, Ok, Err, Result, sym, refl, subst, inl, inr, arith}
+use Rattle.std.specs.List.{AllByRecursion}
 use Rattle.std.proofs.lemmas.Int.{ints, by_lt_z}
 use Rattle.std.proofs.lemmas.Bool.{cases_lt}
 use Rattle.refusal.specs.declared.Refusal.{Refusal}
@@ -11,77 +11,20 @@ use Rattle.section.specs.Asked.{least_for, greatest_for, SetsLeast, SetsGreatest
 use Rattle.section.specs.Truths.{Exactly}
 use Rattle.section.specs.declared.fibre.Fibre.{Fibre}
 use Rattle.section.specs.declared.ends.Ends.{Ends}
+use Rattle.section.proofs.Highest.{first_found, least_set, greatest_set}
 use Rattle.section.proofs.Limits.{admitted_range}
 use Rattle.section.proofs.Grounds.{none_admitted, crushed, parted, balanced}
 
--- the lowest position among the items of the highest value
-record Highest {X : Type 0} (value : X → ℤ) (xs : List X) (p : ℕ) : Type 0 where
-  item : X
-  stands : slice_get xs p ≡ Some item
-  most : (q : ℕ) (x : X) → slice_get xs q ≡ Some x → value x ≤ℤ value item
-  lowest : (q : ℕ) (x : X) → q < p → slice_get xs q ≡ Some x → value x <ℤ value item
-
-module _ {X : Type 0} (value : X → ℤ) where
-  first_most : (x : X) (xs : List X) (bound : ℤ) → value x ≤ℤ bound → ((q : ℕ) (y : X) → slice_get xs q ≡ Some y → value y ≤ℤ bound)
-      → (q : ℕ) (y : X) → slice_get (x ∷ xs) q ≡ Some y → value y ≤ℤ bound
-  first_most x xs bound h rest zero y e = let p : x ≡ y = cc in subst (λ z. value z ≤ℤ bound) p h
-  first_most x xs bound h rest (suc q) y e = rest q y e
-
-  later_lowest : (x : X) (xs : List X) (p : ℕ) (t : Highest value xs p) → value x <ℤ value t.item
-      → (q : ℕ) (y : X) → q < suc p → slice_get (x ∷ xs) q ≡ Some y → value y <ℤ value t.item
-  later_lowest x xs p t h zero y l e = let s : x ≡ y = cc in subst (λ z. value z <ℤ value t.item) s h
-  later_lowest x xs p t h (suc q) y l e = t.lowest q y (omega arith) e
-
-  highest : (x : X) (xs : List X) → (p : ℕ) × Highest value (x ∷ xs) p
-  highest x [] = (
-    0,
-    record {
-      item = x;
-      stands = refl;
-      most = first_most x [] (value x) (omega (arith, ints)) (λ q y e. let z : ◌≡◌ {A = ℕ} 0 1 = cc in absurd (omega arith));
-      lowest = λ q y l e. absurd (omega arith);
-    },
-  )
-  highest x (y ∷ ys) =
-      let r = highest y ys in
-      let t = r.1 in
-      by_lt_z (value x) (value t.item)
-      (λ h. (
-        suc r.0,
-        record {
-          item = t.item;
-          stands = t.stands;
-          most = first_most x (y ∷ ys) (value t.item) (omega (arith, ints)) t.most;
-          lowest = later_lowest x (y ∷ ys) r.0 t h;
-        },
-      ))
-      (λ h. (
-        0,
-        record {
-          item = x;
-          stands = refl;
-          most = first_most x (y ∷ ys) (value x) (omega (arith, ints)) (λ q z e. let k = t.most q z e in omega (arith, ints));
-          lowest = λ q z l e. absurd (omega arith);
-        },
-      ))
-
 module _ (laws : List Meaning) (curvature : ℕ) (f : Fibre) (fibres : List Fibre) where
-  pub sets_least : (p : ℕ) × SetsLeast laws (f ∷ fibres) curvature p
+  sets_least : (p : ℕ) × SetsLeast laws (f ∷ fibres) curvature p
   sets_least =
-      let h = highest (least_for laws curvature) f fibres in
-      (h.0, record { fibre = h.1.item; stands = h.1.stands; most = h.1.most; lowest = h.1.lowest })
+      let h = first_found (least_for laws curvature) (f ∷ fibres) (length fibres) (omega arith) in
+      (h.1, least_set laws (f ∷ fibres) curvature _ h.0 h.1 (omega arith) h.2)
 
-  pub sets_greatest : (p : ℕ) × SetsGreatest laws (f ∷ fibres) curvature p
+  sets_greatest : (p : ℕ) × SetsGreatest laws (f ∷ fibres) curvature p
   sets_greatest =
-      let h = highest (λ g. neg_ℤ (greatest_for laws curvature g)) f fibres in (
-        h.0,
-        record {
-          fibre = h.1.item;
-          stands = h.1.stands;
-          least = λ q g e. let k = h.1.most q g e in omega (arith, ints);
-          lowest = λ q g l e. let k = h.1.lowest q g l e in omega (arith, ints);
-        },
-      )
+      let h = first_found (λ g. neg_ℤ (greatest_for laws curvature g)) (f ∷ fibres) (length fibres) (omega arith) in
+      (h.1, greatest_set laws (f ∷ fibres) curvature _ h.0 h.1 (omega arith) h.2)
 
 -- the first of n + 1 numbers, up from the lowest, at which a value is not below the load
 module _ (value : ℤ → ℤ) (load : ℤ) where
@@ -134,7 +77,7 @@ last_between value load low high h k =
 module _ (laws : List Meaning) (lawful : AllByRecursion Lawful laws) (f : Fibre) (rest : List Fibre) (ranged : AllByRecursion Ranged (f ∷ rest))
     (load : ℤ) (depth curvature : ℕ) (small : curvature ≤ 65535) where
   askable : Askable (f ∷ rest) curvature
-  askable = (small, λ e. let z : ◌≡◌ {A = ℕ} 0 1 = cc in omega arith)
+  askable = (small, λ e. cc)
 
   module _ (p q : ℕ) (s : SetsLeast laws (f ∷ rest) curvature p) (t : SetsGreatest laws (f ∷ rest) curvature q) (low high : ℤ)
       (range : (top : ℤ) → Exactly (Admitted laws (f ∷ rest) curvature top) ((low ≤ℤ top) × (top ≤ℤ high))) where

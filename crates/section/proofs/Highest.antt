@@ -1,12 +1,12 @@
 -- The first of the highest values among the fibres before a position, and the range that a loop over them keeps.
-use Rattle.std.proofs.Common.{◌≡◌, ℕ, ◌+◌, ◌<◌, ◌≤◌, cond, List, length, ℤ, neg_ℤ, ◌≤ℤ◌, ◌<ℤ◌, Some, sym, subst, inl, inr, arith}
+use Rattle.std.proofs.Common.{◌≡◌, ℕ, zero, suc, ◌+◌, ◌<◌, ◌≤◌, cond, List, [], ◌∷◌, length, get_or, ℤ, pos, neg_ℤ, ◌≤ℤ◌, ◌<ℤ◌, Some, None, Option, MatchOption, sym, refl, subst, inl, inr, arith, add-one}
 use lib.Signed.{lt_z}
 use Rattle.std.specs.List.{slice_get}
-use Rattle.std.proofs.lemmas.Option.{slice_get_past}
-use Rattle.std.proofs.lemmas.Int.{ints}
+use Rattle.std.proofs.lemmas.Option.{slice_get_past, slice_get-get_or}
+use Rattle.std.proofs.lemmas.Int.{ints, by_lt_z}
 use Rattle.std.proofs.lemmas.Bool.{cases_lt, cond_both}
 use Rattle.laws.specs.Meaning.{Meaning}
-use Rattle.section.specs.Asked.{least_for, greatest_for}
+use Rattle.section.specs.Asked.{least_for, greatest_for, SetsLeast, SetsGreatest}
 use Rattle.section.specs.Range.{SetsEnds}
 use Rattle.section.specs.declared.fibre.Fibre.{Fibre}
 use Rattle.section.specs.declared.range.End.{End}
@@ -76,8 +76,47 @@ module _ (value : Fibre → ℤ) (fibres : List Fibre) where
       → (q : ℕ) (g : Fibre) → slice_get fibres q ≡ Some g → value g ≤ℤ best
   first_of_all i best place all known q g e = elim (cases_lt q i) [
     | inl k ↦ known.most q g k e
-    | inr k ↦ let n = slice_get_past fibres q (omega arith) in let z : ◌≡◌ {A = ℕ} 0 1 = cc in absurd (omega arith)
+    | inr k ↦ let n = slice_get_past fibres q (omega arith) in cc
   ]
+
+  -- there is one as soon as there is a fibre
+  pub first_found : (i : ℕ) → i < length fibres → (best : ℤ) × (place : ℕ) × First value fibres (i + 1) best place
+  first_found zero inside =
+      let f = get_or fibres 0 (record { depth = 0; area = 0; material = 0; initial = pos 0 }) in
+      (value f, 0, first_alone 0 f (slice_get-get_or fibres 0 _ inside) (value f) refl 0 refl refl)
+  first_found (suc i) inside =
+      let f = get_or fibres (suc i) (record { depth = 0; area = 0; material = 0; initial = pos 0 }) in
+      let k = first_found i (omega arith) in
+      let known = rw add-one at k.2 in
+      by_lt_z k.0 (value f)
+      (λ b. (value f, suc i, first_beaten (suc i) f (slice_get-get_or fibres (suc i) _ inside) (value f) refl (suc i) refl k.0 k.1 known b))
+      (λ b. (k.0, k.1, first_stays (suc i) f (slice_get-get_or fibres (suc i) _ inside) (value f) refl (suc i) refl k.0 k.1 known b))
+
+module _ (laws : List Meaning) (fibres : List Fibre) (curvature i : ℕ) (best : ℤ) (place : ℕ) (all : length fibres ≤ i) where
+  -- past the last fibre, it sets an end of the range
+  abbrev pub least_set : First (least_for laws curvature) fibres i best place → SetsLeast laws fibres curvature place
+  least_set known =
+      let is = known.is in
+      record {
+        fibre = known.fibre;
+        stands = known.stands;
+        most = λ q g e. let h = first_of_all _ fibres i _ _ all known q g e in omega (arith, ints);
+        lowest = λ q g l e. let h = known.lowest q g l e in omega (arith, ints);
+      }
+
+  abbrev pub greatest_set : First (λ f. neg_ℤ (greatest_for laws curvature f)) fibres i best place → SetsGreatest laws fibres curvature place
+  greatest_set known =
+      let is = known.is in
+      record {
+        fibre = known.fibre;
+        stands = known.stands;
+        least = λ q g e. let h = first_of_all _ fibres i _ _ all known q g e in omega (arith, ints);
+        lowest = λ q g l e. let h = known.lowest q g l e in omega (arith, ints);
+      }
+
+none_left : (fibres : List Fibre) → length fibres ≤ 0 → fibres ≡ []
+none_left [] h = refl
+none_left (f ∷ fibres) h = absurd (omega arith)
 
 -- after i fibres, at least one
 pub record Narrowed (laws : List Meaning) (fibres : List Fibre) (curvature i : ℕ) (r : Range) : Type 0 where
@@ -122,25 +161,18 @@ module _ (laws : List Meaning) (fibres : List Fibre) (curvature : ℕ) where
             (λ b. first_stays _ fibres i f own.stands (neg_ℤ r.greatest.top) turned_is r.greatest.fibre own.greatest_place _ _ known.high (omega (arith, ints))));
       }
 
-  pub narrowed_last : (i : ℕ) (r : Range) → length fibres ≤ i → Narrowed laws fibres curvature i r → SetsEnds laws fibres curvature r
+  narrowed_last : (i : ℕ) (r : Range) → length fibres ≤ i → Narrowed laws fibres curvature i r → SetsEnds laws fibres curvature r
   narrowed_last i r all known =
-      let low = known.low in
-      let high = known.high in
-      let low_is = known.low.is in
       let high_is = known.high.is in
       record {
-        sets_least = record {
-          fibre = low.fibre;
-          stands = low.stands;
-          most = λ q g e. let h = first_of_all _ fibres i _ _ all known.low q g e in omega (arith, ints);
-          lowest = λ q g l e. let h = known.low.lowest q g l e in omega (arith, ints);
-        };
-        least_is = low.is;
-        sets_greatest = record {
-          fibre = high.fibre;
-          stands = high.stands;
-          least = λ q g e. let h = first_of_all _ fibres i _ _ all known.high q g e in omega (arith, ints);
-          lowest = λ q g l e. let h = known.high.lowest q g l e in omega (arith, ints);
-        };
+        sets_least = least_set laws fibres curvature i _ _ all known.low;
+        least_is = known.low.is;
+        sets_greatest = greatest_set laws fibres curvature i _ _ all known.high;
         greatest_is = omega (arith, ints);
       }
+
+  -- past the last fibre
+  pub narrowed_all : (i : ℕ) → length fibres ≤ i → (r : Option Range) → MatchOption r (i ≡ 0) (Narrowed laws fibres curvature i)
+      → MatchOption r (fibres ≡ []) (SetsEnds laws fibres curvature)
+  narrowed_all i all None none = none_left fibres (omega arith)
+  narrowed_all i all (Some r) known = narrowed_last i r all known

@@ -18,7 +18,7 @@ limits_are None = refl
 limits_are (Some law) = refl
 
 pub all_nth : {X : Type 0} (P : X → Type 0) (xs : List X) → AllByRecursion P xs → (i : ℕ) (x : X) → slice_get xs i ≡ Some x → P x
-all_nth P [] all i x e = let z : ◌≡◌ {A = ℕ} 0 1 = cc in absurd (omega arith)
+all_nth P [] all i x e = cc
 all_nth P (y ∷ ys) all zero x e = let p : y ≡ x = cc in subst P p all.0
 all_nth P (y ∷ ys) all (suc i) x e = all_nth P ys all.1 i x e
 

@@ -10,10 +10,10 @@ use Rattle.kits.proofs.Reaching.{numbered_past}
 
 absent : (law : Option Meaning) → None ≡ option_map limits_of law → law ≡ None
 absent None h = refl
-absent (Some law) h = absurd (let z : ◌≡◌ {A = ℕ} 0 1 = cc in omega arith)
+absent (Some law) h = cc
 
 present : (law : Option Meaning) (limits : Limits) → Some limits ≡ option_map limits_of law → (m : Meaning) × (law ≡ Some m)
-present None limits h = absurd (let z : ◌≡◌ {A = ℕ} 0 1 = cc in omega arith)
+present None limits h = cc
 present (Some law) limits h = (law, refl)
 
 -- a number that fits a byte is that byte

@@ -11,6 +11,7 @@ use Rattle.section.specs.Asked.{Asked}
 use Rattle.section.specs.Truths.{TruthsOf}
 use Rattle.section.specs.declared.ends.Ends.{Ends}
 use Rattle.section.specs.declared.fibre.Fibre.{Fibre}
+use Rattle.section.specs.declared.figures.Figure.{Figure}
 
 -- the fibres by position, the load and its depth
 pub record Book : Type 0 where
@@ -28,12 +29,6 @@ abbrev pub loaded : Book → ℤ → ℕ → Book
 loaded b load depth = record { fibres = b.fibres; load = load; depth = depth }
 
 -- ---- figures and their ranges
-
--- a figure as it was written, and the ends of its range
-pub record Figure : Type 0 where
-  pub least : ℤ
-  pub written : ℤ
-  pub most : ℤ
 
 abbrev pub within : Figure → Bool
 within f = int_le f.least f.written && int_le f.written f.most

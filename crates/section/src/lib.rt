@@ -4,8 +4,12 @@
 mod ask;
 pub mod ends;
 pub mod fibre;
+mod figures;
 mod force;
+mod load;
+mod plane;
 mod range;
+mod row;
 pub mod section;
 #[cfg(test)]
 mod tests;

@@ -1,11 +1,6 @@
 // Two layers of one square inch, of a law that gains one psi with each 1,000 nano up to 1,000 psi either way.
-ghost use Rattle.std.specs.Prelude.{◌≡◌, pos};
-ghost use Rattle.section.specs.Ranges.{LoadRanged};
-
-use crate::ask::ask;
 use crate::ends::Ends;
-use crate::fibre::Fibre;
-use kits::kit::Kit;
+use crate::section::Section;
 use kits::single::Single;
 use laws::point::Point;
 use laws::point_law::PointLaw;
@@ -14,18 +9,7 @@ use std::alloc::Global;
 use std::process::Abort;
 use std::test::Fail;
 
-fn layer(depth: u32) -> Fibre
-    ensures { result ≡ record { depth = depth; area = 1000; material = 0; initial = pos 0 } }
-{
-    Fibre {
-        depth,
-        area: 1000,
-        material: 0,
-        initial: 0,
-    }
-}
-
-fn kit(heap: Global) -> Result<Single<PointLaw>, Fail> {
+fn bare(heap: Global) -> Result<Section<Single<PointLaw>>, Fail> {
     let points = [
         Point {
             strain: -1_000_000,
@@ -36,21 +20,27 @@ fn kit(heap: Global) -> Result<Single<PointLaw>, Fail> {
             stress: 1000,
         },
     ];
-    Ok(Single(PointLaw::new(points.to_vec(heap)?, 2_000_000, 2_000_000)?))
+    let law = PointLaw::new(points.to_vec(heap)?, 2_000_000, 2_000_000)?;
+    Ok(Section::new(heap, Single(law))?)
 }
 
-fn answers<K: Kit>(
+fn layered(rt: &impl Abort, heap: Global) -> Result<Section<Single<PointLaw>>, Fail> {
+    let mut section = bare(heap)?;
+    assert_eq!(rt; section.put(0, 1000, 0, 0), Ok(0));
+    assert_eq!(rt; section.put(100, 1000, 0, 0), Ok(1));
+    Ok(section)
+}
+
+fn answers(
     rt: &impl Abort,
-    kit: &K,
+    section: &mut Section<Single<PointLaw>>,
     load: i64,
-    load_depth: u32,
+    load_depth: i64,
     curvature: u32,
     answer: Result<Ends, Refusal>,
-)
-    requires { LoadRanged load load_depth }
-{
-    let layers = [layer(0), layer(100)];
-    assert_eq!(rt; ask(kit, &layers, load, load_depth, curvature), answer);
+) {
+    assert_eq!(rt; section.load(load, load_depth), Ok(()));
+    assert_eq!(rt; section.ask(curvature), answer);
 }
 
 fn ends(first: i32, last: i32, moment: i64) -> Result<Ends, Refusal> {
@@ -64,10 +54,10 @@ fn ends(first: i32, last: i32, moment: i64) -> Result<Ends, Refusal> {
 
 #[test]
 fn balanced(rt: HostRuntime) -> Result<(), Fail> {
-    let kit = kit(rt.alloc())?;
+    let mut section = layered(&rt, rt.alloc())?;
     answers(
         &rt,
-        &kit,
+        &mut section,
         0,
         0,
         10_000,
@@ -75,7 +65,7 @@ fn balanced(rt: HostRuntime) -> Result<(), Fail> {
     );
     answers(
         &rt,
-        &kit,
+        &mut section,
         2000,
         100,
         10_000,
@@ -86,30 +76,37 @@ fn balanced(rt: HostRuntime) -> Result<(), Fail> {
 
 #[test]
 fn unbalanced(rt: HostRuntime) -> Result<(), Fail> {
-    let kit = kit(rt.alloc())?;
+    let mut section = layered(&rt, rt.alloc())?;
     let apart = Ends {
         first: -499_000,
         last: -499_001,
         first_moment: 50_100_000,
         last_moment: 50_000_000,
     };
-    answers(&rt, &kit, 1, 0, 10_000, Ok(apart));
+    answers(&rt, &mut section, 1, 0, 10_000, Ok(apart));
     Ok(())
 }
 
 #[test]
 fn refused(rt: HostRuntime) -> Result<(), Fail> {
-    let kit = kit(rt.alloc())?;
-    answers(&rt, &kit, 0, 0, 65_536, Err(Refusal::TooCurved));
-    assert_eq!(rt; ask(&kit, &[], 0, 0, 65_535), Err(Refusal::EmptySection));
+    let mut section = layered(&rt, rt.alloc())?;
+    answers(&rt, &mut section, 0, 0, 65_536, Err(Refusal::TooCurved));
+    answers(
+        &rt,
+        &mut bare(rt.alloc())?,
+        0,
+        0,
+        65_535,
+        Err(Refusal::EmptySection),
+    );
     let none = Refusal::NoneAdmitted {
         compressed: 0,
         stretched: 1,
     };
-    answers(&rt, &kit, 0, 0, 65_535, Err(none));
+    answers(&rt, &mut section, 0, 0, 65_535, Err(none));
     answers(
         &rt,
-        &kit,
+        &mut section,
         -2_000_001,
         0,
         0,
@@ -117,7 +114,7 @@ fn refused(rt: HostRuntime) -> Result<(), Fail> {
     );
     answers(
         &rt,
-        &kit,
+        &mut section,
         2_000_001,
         0,
         0,
@@ -125,7 +122,7 @@ fn refused(rt: HostRuntime) -> Result<(), Fail> {
     );
     answers(
         &rt,
-        &kit,
+        &mut section,
         2_000_001,
         0,
         10_000,

@@ -3,11 +3,12 @@ ghost use Rattle.std.specs.Prelude.{◌≡◌, IfOk};
 ghost use Rattle.section.specs.Calls.{first_book, Put, Take, Loads, AskedOf, TruthsOfBook};
 ghost use Rattle.section.specs.Books.{book_of};
 
-use super::figures::{check_fibre, check_load};
-use super::{Load, Row, Section};
-use crate::ask::ask;
+use super::Section;
 use crate::ends::Ends;
 use crate::fibre::Fibre;
+use crate::figures::check_fibre;
+use crate::load::Load;
+use crate::row::Row;
 use kits::kit::Kit;
 use refusal::Refusal;
 use std::alloc::{AllocError, Global};
@@ -49,6 +50,7 @@ impl<K: Kit> Section<K> {
         let Ok(number) = u8::try_from(material) else {
             return Err(Refusal::NoLaw);
         };
+        // The project's rules want the kit's answer taken apart here.
         let Some(_) = self.row.kit.limits(number as usize) else {
             return Err(Refusal::NoLaw);
         };
@@ -78,11 +80,7 @@ impl<K: Kit> Section<K> {
         ensures kit { self.new.row.kit ≡ self.old.row.kit }
         ensures book { Loads (book_of self.old) force depth result (book_of self.new) }
     {
-        check_load(force, depth)?;
-        self.load = Load {
-            force,
-            depth: depth as u32,
-        };
+        self.load = Load::new(force, depth)?;
         Ok(())
     }
 
@@ -91,12 +89,6 @@ impl<K: Kit> Section<K> {
         ensures asked { AskedOf (K.Kit.laws self.now.row.kit) (book_of self.now) curvature result }
         ensures truths { TruthsOfBook (K.Kit.laws self.now.row.kit) (book_of self.now) curvature }
     {
-        ask(
-            &self.row.kit,
-            &self.row.fibres,
-            self.load.force,
-            self.load.depth,
-            curvature,
-        )
+        self.row.ask(&self.load, curvature)
     }
 }

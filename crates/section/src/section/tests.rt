@@ -29,10 +29,7 @@ fn filled(rt: &impl Abort, heap: Global, count: u16) -> Result<Section<Single<Po
 }
 
 fn depth_at(section: &Section<Single<PointLaw>>, position: usize) -> Option<u32> {
-    match section.row.fibres.get(position) {
-        Some(fibre) => Some(fibre.depth),
-        None => None,
-    }
+    section.row.fibres.get(position).map(|fibre| fibre.depth)
 }
 
 #[test]

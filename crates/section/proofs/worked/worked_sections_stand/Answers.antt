@@ -32,7 +32,7 @@ module _ (load : ℤ) (curvature : ℕ) (first last m n : ℤ) where
       → m ≡ moment (material ∷ []) layers load 0 curvature first → n ≡ moment (material ∷ []) layers load 0 curvature last
       → Answers load curvature first last m n
   answers small fl fh ll lh enough short within past fm lm = (
-    (small, λ e. let z : ◌≡◌ {A = ℕ} 0 1 = cc in omega arith),
+    (small, λ e. cc),
     record {
       first_end = first_by_neighbour (material ∷ []) lawful layers ranged load curvature small first (first -ℤ pos 1)
           (admitted curvature first fl fh) enough (omega (arith, ints), omega (arith, ints)) (omega (arith, ints)) short;
