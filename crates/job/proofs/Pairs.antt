@@ -1,31 +1,22 @@
 -- Lists that are related place by place.
-use Rattle.std.proofs.Common.{◌≡◌, ℕ, zero, suc, ◌+◌, ◌<◌, List, [], ◌∷◌, ◌++◌, map, length, get_or, take, drop, set, ℤ, sym, refl, ap, ◌∙◌, subst, add-one, arith, w64, SFits, to_z, of_z}
+use Rattle.std.proofs.Common.{◌≡◌, ℕ, zero, suc, ◌+◌, ◌<◌, List, [], ◌∷◌, ◌++◌, map, length, get_or, drop, ℤ, sym, refl, ap, ◌∙◌, subst, add-one, arith, w64, SFits, to_z, of_z}
 use Rattle.std.specs.List.{AllByRecursion}
-use Rattle.std.proofs.lemmas.List.{take_more, take_more_set, drop_all, drop_more}
+use Rattle.std.proofs.lemmas.List.{drop_all, drop_more}
 use Rattle.std.proofs.lemmas.Int.{to_z-of_z}
 use Rattle.job.specs.Numbers.{Pairwise, Whole}
 
-pairwise_push : {X Y : Type 0} (R : X → Y → Type 0) (xs : List X) (ys : List Y) (x : X) (y : Y) → Pairwise R xs ys → R x y → Pairwise R (xs ++ x ∷ []) (ys ++ y ∷ [])
+pub pairwise_push : {X Y : Type 0} (R : X → Y → Type 0) (xs : List X) (ys : List Y) (x : X) (y : Y) → Pairwise R xs ys → R x y → Pairwise R (xs ++ x ∷ []) (ys ++ y ∷ [])
 pairwise_push R [] [] x y h r = (r, tt)
 pairwise_push R [] (b ∷ ys) x y h r = absurd h
 pairwise_push R (a ∷ xs) [] x y h r = absurd h
 pairwise_push R (a ∷ xs) (b ∷ ys) x y h r = (h.0, pairwise_push R xs ys x y h.1 r)
-
--- one more place, as a loop that fills an array comes to it
-pub pairwise_more : {X Y : Type 0} (R : X → Y → Type 0) (xs : List X) (ys : List Y) (i : ℕ) (d : X) (y : Y) → i < length xs → i < length ys → Pairwise R (take i xs) (take i ys) → R (get_or xs i d) y → Pairwise R (take (i + 1) xs) (take (i + 1) (set ys i y))
-pairwise_more R xs ys i d y inside room h r =
-    rw (take_more xs i d inside, take_more_set ys i y room) (pairwise_push R (take i xs) (take i ys) (get_or xs i d) y h r)
-
--- and one more, as a loop that pushes comes to it
-pub pairwise_pushed : {X Y : Type 0} (R : X → Y → Type 0) (xs : List X) (ys zs : List Y) (i : ℕ) (d : X) (y : Y) → i < length xs → zs ≡ ys ++ y ∷ [] → Pairwise R (take i xs) ys → R (get_or xs i d) y → Pairwise R (take (i + 1) xs) zs
-pairwise_pushed R xs ys zs i d y inside e h r = rw (take_more xs i d inside, e) (pairwise_push R (take i xs) ys (get_or xs i d) y h r)
 
 -- n items from place i on, each by its place, as a pattern takes an array apart
 abbrev pub places : {X : Type 0} → ℕ → ℕ → List X → X → List X
 places zero i xs d = []
 places (suc n) i xs d = get_or xs i d ∷ places n (suc i) xs d
 
-places_all : {X : Type 0} (n i : ℕ) (xs : List X) (d : X) → length xs ≡ i + n → places n i xs d ≡ drop i xs
+pub places_all : {X : Type 0} (n i : ℕ) (xs : List X) (d : X) → length xs ≡ i + n → places n i xs d ≡ drop i xs
 places_all zero i xs d h = sym (drop_all i xs (omega arith))
 places_all (suc n) i xs d h =
     ap (λ ys. get_or xs i d ∷ ys) (places_all n (suc i) xs d (omega arith) ∙ ap (λ k. drop k xs) (sym (add-one i))) ∙ sym (drop_more xs i d (omega arith))

@@ -34,8 +34,8 @@ card_name (DeckCard f) = Deck
 card_name (SteelCard f) = Steel
 
 abbrev pub name : Command → Name
-name (Card card alpha gamma) = card_name card
-name (PointsOf points compression tension) = Points
+name (Card line) = card_name line.card
+name (PointsOf line) = Points
 name (StressOf number strain) = Stress
 name (ReachOf number stress) = Reach
 
@@ -46,14 +46,14 @@ written_points (p ∷ ps) = p.strain ∷ p.stress ∷ written_points ps
 
 -- the numbers of a command, in the order in which they are written
 abbrev pub reals : Command → List Float
-reals (Card card alpha gamma) = map (λ f. f.1) (figures card)
-reals (PointsOf points compression tension) = []
+reals (Card line) = map (λ f. f.1) (figures line.card)
+reals (PointsOf line) = []
 reals (StressOf number strain) = []
 reals (ReachOf number stress) = []
 
 abbrev pub wholes : Command → List ℤ
-wholes (Card card alpha gamma) = alpha ∷ gamma ∷ []
-wholes (PointsOf points compression tension) = compression ∷ tension ∷ written_points (vec_items points)
+wholes (Card line) = line.alpha ∷ line.gamma ∷ []
+wholes (PointsOf line) = line.compression ∷ line.tension ∷ written_points (vec_items line.points)
 wholes (StressOf number strain) = number ∷ strain ∷ []
 wholes (ReachOf number stress) = number ∷ stress ∷ []
 

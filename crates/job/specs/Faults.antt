@@ -1,5 +1,5 @@
 -- Why words are no command, and how that is said.
-use Rattle.std.specs.Prelude.{◌≡◌, ℕ, ◌+◌, List, [], ◌∷◌, ◌++◌, length, take, drop, Some, None, codes, decimal, Option, FitsSigned, ◌≢◌, slice_index_or}
+use Rattle.std.specs.Prelude.{◌≡◌, ℕ, ◌+◌, List, [], ◌∷◌, ◌++◌, length, take, drop, Some, None, codes, decimal, Option, Result, MatchResult, FitsSigned, ◌≢◌, slice_index_or}
 use Rattle.std.specs.Int.{w32}
 use Rattle.std.specs.Str.Parse.{signed_digits_value}
 use Rattle.std.specs.List.{AllByRecursion}
@@ -11,6 +11,8 @@ use Rattle.job.specs.declared.command.Name.{Name}
 use Rattle.job.specs.declared.command.Name.TheVariants.{Uhpc, Deck, Steel, Points, Stress, Reach}
 use Rattle.job.specs.declared.fault.Fault.{Fault}
 use Rattle.job.specs.declared.fault.Fault.TheVariants.{Unknown, Form, NotReal, NotWhole, NotNarrow}
+use Rattle.job.specs.declared.fault.Unread.{Unread}
+use Rattle.job.specs.declared.fault.Unread.TheVariants.{Fault as AtFault, Memory}
 
 -- a command that always takes so many numbers of f64's parse and then so many whole ones
 pub record Fixed (name : Name) (r w : ℕ) : Type 0 where
@@ -47,6 +49,15 @@ Faulty (word ∷ arguments) (Form n) = (name : Name) × (word ≡ spelling name)
 Faulty (word ∷ arguments) (NotReal place) = (name : Name) × (word ≡ spelling name) × Misses name arguments (NotReal place)
 Faulty (word ∷ arguments) (NotWhole place) = (name : Name) × (word ≡ spelling name) × Misses name arguments (NotWhole place)
 Faulty (word ∷ arguments) (NotNarrow place) = (name : Name) × (word ≡ spelling name) × Misses name arguments (NotNarrow place)
+
+-- where the words are at fault, the fault is one of these
+abbrev pub UnreadBy : (Fault → Type 0) → Unread → Type 0
+UnreadBy P (AtFault fault) = P fault
+UnreadBy P (Memory error) = Unit {0}
+
+-- the text is the word of a command, or that of none
+abbrev pub NamesCommand : List ℕ → Result Name Fault → Type 0
+NamesCommand text r = MatchResult r (λ name. text ≡ spelling name) (λ fault. (fault ≡ Unknown) × ((name : Name) → text ≢ spelling name))
 
 -- the place that a fault names, if it names one
 abbrev pub place : Fault → Option ℕ

@@ -16,47 +16,48 @@ use Rattle.words.specs.Words.{WordsOf}
 use Rattle.job.specs.Commands.{card_name, Spells}
 use Rattle.job.specs.Faults.{Faulty}
 use Rattle.job.specs.Materials.{material_law}
+use Rattle.job.specs.declared.command.CardLine.{CardLine}
 use Rattle.job.specs.declared.command.Command.{Command}
 use Rattle.job.specs.declared.command.Command.TheVariants.{Card, Points, Stress, Reach}
 use Rattle.job.specs.declared.fault.Fault.{Fault}
 use Rattle.job.specs.declared.material.Material.{Material}
 use Rattle.job.specs.declared.material.Material.TheVariants.{Card as OfCard, Points as OfPoints}
-use Rattle.job.specs.declared.printed.Answer.TheVariants.{Card as CardLine, Points as PointsLine, Stress as StressLine, Reach as ReachLine}
+use Rattle.job.specs.declared.printed.Answer.TheVariants.{Card as CardAnswer, Points as PointsAnswer, Stress as StressAnswer, Reach as ReachAnswer}
 use Rattle.job.specs.declared.printed.Printed.{Printed}
 use Rattle.job.specs.declared.printed.Printed.TheVariants.{Answered, Refused, Unreadable}
 
--- the law is that of the card, checked and reduced by these factors
-pub record Makes (card : WrittenCard) (alpha gamma : ℤ) (law : TwoLine) : Type 0 where
+-- the law is that of the card, checked and reduced by its factors
+pub record Makes (line : CardLine) (law : TwoLine) : Type 0 where
   pub whole : Figures ℕ
-  pub checked : Checked (figures card) (figures whole)
-  pub reduced : Reduced alpha gamma whole law
+  pub checked : Checked (figures line.card) (figures whole)
+  pub reduced : Reduced line.alpha line.gamma whole law
 
 -- a figure is refused, or, where none is, a factor
-abbrev pub MakesNone : WrittenCard → ℤ → ℤ → Refusal → Type 0
-MakesNone card alpha gamma refusal =
-    FigureRefused (figures card) refusal
-    ⊎ ((whole : Figures ℕ) × Checked (figures card) (figures whole) × FactorRefused alpha gamma refusal)
+abbrev pub MakesNone : CardLine → Refusal → Type 0
+MakesNone line refusal =
+    FigureRefused (figures line.card) refusal
+    ⊎ ((whole : Figures ℕ) × Checked (figures line.card) (figures whole) × FactorRefused line.alpha line.gamma refusal)
 
 -- what the job's kit means
 abbrev pub kit_laws : List Material → List Meaning
 kit_laws materials = map material_law materials
 
 abbrev pub StressPrinted : Option ℤ → Printed → Type 0
-StressPrinted (Some stress) printed = printed ≡ Answered (StressLine stress)
+StressPrinted (Some stress) printed = printed ≡ Answered (StressAnswer stress)
 StressPrinted None printed = (refusal : Refusal) × Says refusal 8 [] × (printed ≡ Refused refusal)
 
 abbrev pub reach_line : Result ℤ Refusal → Printed
-reach_line (Ok strain) = Answered (ReachLine strain)
+reach_line (Ok strain) = Answered (ReachAnswer strain)
 reach_line (Err refusal) = Refused refusal
 
 -- a material is added at the end and printed with its number, or refused; what is looked up in the kit is printed, or refused
 abbrev pub Performed : List Material → Command → Printed → List Material → Type 0
-Performed materials (Card card alpha gamma) printed after =
-    ((law : TwoLine) × Makes card alpha gamma law × (printed ≡ Answered (CardLine (card_name card) (length materials) law)) × (after ≡ materials ++ OfCard law ∷ []))
-    ⊎ ((refusal : Refusal) × MakesNone card alpha gamma refusal × (printed ≡ Refused refusal) × (after ≡ materials))
-Performed materials (Points points compression tension) printed after =
-    ((law : PointLaw) × PointsTaken (vec_items points) compression tension (vec_items law.points) law.limits × (printed ≡ Answered (PointsLine (length materials))) × (after ≡ materials ++ OfPoints law ∷ []))
-    ⊎ ((refusal : Refusal) × PointsRefused (vec_items points) compression tension refusal × (printed ≡ Refused refusal) × (after ≡ materials))
+Performed materials (Card line) printed after =
+    ((law : TwoLine) × Makes line law × (printed ≡ Answered (CardAnswer (card_name line.card) (length materials) law)) × (after ≡ materials ++ OfCard law ∷ []))
+    ⊎ ((refusal : Refusal) × MakesNone line refusal × (printed ≡ Refused refusal) × (after ≡ materials))
+Performed materials (Points line) printed after =
+    ((law : PointLaw) × PointsTaken (vec_items line.points) line.compression line.tension (vec_items law.points) law.limits × (printed ≡ Answered (PointsAnswer (length materials))) × (after ≡ materials ++ OfPoints law ∷ []))
+    ⊎ ((refusal : Refusal) × PointsRefused (vec_items line.points) line.compression line.tension refusal × (printed ≡ Refused refusal) × (after ≡ materials))
 Performed materials (Stress number strain) printed after =
     StressPrinted (option_map (stress_of strain) (numbered (kit_laws materials) number)) printed × (after ≡ materials)
 Performed materials (Reach number stress) printed after =

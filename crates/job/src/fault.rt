@@ -1,8 +1,9 @@
 // Why a line is no command.
-ghost use Rattle.std.specs.Prelude.{◌≡◌, Some};
+ghost use Rattle.std.specs.Prelude.{◌≡◌, Some, alloc_error};
 ghost use Rattle.job.specs.Faults.{place as place_of, text as text_of, words as words_of};
 
 use crate::command::Name;
+use std::alloc::{AllocError, AllocFailed};
 use std::fmt;
 
 // A place counts the numbers after the command's word, from 0.
@@ -20,11 +21,10 @@ impl Fault {
         ensures { result ≡ place_of self.now }
     {
         match *self {
-            Fault::Unknown => None,
-            Fault::Form { .. } => None,
-            Fault::NotReal { place } => Some(place),
-            Fault::NotWhole { place } => Some(place),
-            Fault::NotNarrow { place } => Some(place),
+            Fault::Unknown | Fault::Form { .. } => None,
+            Fault::NotReal { place } | Fault::NotWhole { place } | Fault::NotNarrow { place } => {
+                Some(place)
+            }
         }
     }
 
@@ -50,5 +50,42 @@ impl fmt::Display for Fault {
             None => write!(f, "{text}"),
             Some(place) => write!(f, "place {place} {text}"),
         }
+    }
+}
+
+// Why words were not read: they are no command, or memory ran out.
+#[derive(Clone, Copy, PartialEq, Eq, Debug)]
+pub enum Unread {
+    Fault(Fault),
+    Memory(AllocError),
+}
+
+impl From<Fault> for Unread {
+    ghost use Rattle.job.specs.declared.fault.Unread.TheVariants.{Fault as AtFault};
+
+    ghost from_gives = { λ fault unread. unread ≡ AtFault fault };
+
+    fn from(fault: Fault) -> Unread {
+        Unread::Fault(fault)
+    }
+}
+
+impl From<AllocError> for Unread {
+    ghost use Rattle.job.specs.declared.fault.Unread.TheVariants.{Memory};
+
+    ghost from_gives = { λ error unread. unread ≡ Memory error };
+
+    fn from(error: AllocError) -> Unread {
+        Unread::Memory(error)
+    }
+}
+
+impl<T: Drop> From<AllocFailed<T>> for Unread {
+    ghost use Rattle.job.specs.declared.fault.Unread.TheVariants.{Memory};
+
+    ghost from_gives = { λ _ unread. unread ≡ Memory alloc_error };
+
+    fn from(failed: AllocFailed<T>) -> Unread {
+        Unread::Memory(failed.into())
     }
 }

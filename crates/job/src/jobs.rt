@@ -1,22 +1,19 @@
 // A job that goes on line by line.
-ghost use Rattle.std.specs.Prelude.{◌≡◌, [], Decides, MatchResult, slice_index};
+ghost use Rattle.std.specs.Prelude.{◌≡◌, ◌++◌, [], ◌∷◌, length, Decides, MatchResult};
 ghost use Rattle.words.specs.Words.{texts};
-ghost use Rattle.job.specs.Commands.{card_name};
-ghost use Rattle.job.specs.Jobs.{Makes, MakesNone, Performed, Remark, Prints};
+ghost use Rattle.job.specs.declared.command.Command.TheVariants.{Card, Points, Stress, Reach};
+ghost use Rattle.job.specs.Jobs.{Performed, Remark, Prints};
 
-use crate::command::{Command, Name};
+use crate::command::{CardLine, Command, Name, PointsLine};
+use crate::fault::Unread;
 use crate::material::Material;
 use crate::printed::{Answer, Printed};
 use crate::read::read;
-use cards::two_line::TwoLine;
-use cards::written::WrittenCard;
 use kits::kit::Kit;
 use kits::reach::reach;
-use laws::law::Law;
-use laws::point::Point;
-use laws::point_law::PointLaw;
 use refusal::Refusal;
 use std::alloc::{AllocError, Global};
+use std::marker::Model;
 use words::words;
 
 // The materials of a job are one kit, numbered from 0 in the order in which they were accepted.
@@ -25,84 +22,60 @@ pub struct Job {
     materials: Vec<Material>,
 }
 
-fn name_of_card(card: &WrittenCard) -> Name
-    ensures { result ≡ card_name card.now }
-{
-    match card {
-        WrittenCard::Uhpc(_) => Name::Uhpc,
-        WrittenCard::Deck(_) => Name::Deck,
-        WrittenCard::Steel(_) => Name::Steel,
-    }
-}
+impl Model for Job {
+    ghost use Rattle.std.specs.Prelude.{List};
+    ghost use Rattle.job.specs.declared.material.Material.{Material};
 
-fn begins_remark(word: &[u8]) -> bool
-    ensures { Decides result (slice_index word.now 0 ≡ 35) }
-{
-    match word.first() {
-        Some(byte) => *byte == b'#',
-        None => false,
-    }
+    ghost Value = { List Material };
+
+    ghost view = { λ job. job.materials.items };
 }
 
 // A line with no word, or whose first word begins with `#`, is skipped.
 fn is_remark(words: &[&[u8]]) -> bool
     ensures { Decides result (Remark (texts words.now)) }
 {
-    match words.split_first() {
-        Some((word, _)) => begins_remark(word),
-        None => true,
-    }
-}
-
-// The law that a card makes with these factors.
-fn law_of(card: WrittenCard, alpha: i64, gamma: i64) -> Result<TwoLine, Refusal>
-    ensures { MatchResult result (λ l. Makes card alpha gamma l) (λ e. MakesNone card alpha gamma e) }
-{
-    match card.check() {
-        Ok(checked) => match checked.reduce(alpha, gamma) {
-            Ok(reduced) => Ok(reduced.law()),
-            Err(refused) => Err(refused.refusal),
-        },
-        Err(refused) => Err(refused.refusal),
-    }
+    words.first().is_none_or(|word| word.starts_with(b"#"))
 }
 
 impl Job {
     // A job with no material yet.
     pub fn new(heap: Global) -> Job
-        ensures { result.materials.items ≡ [] }
+        ensures { result ≡ [] }
     {
         Job {
             materials: Vec::new(heap),
         }
     }
 
-    fn add_card(&mut self, card: WrittenCard, alpha: i64, gamma: i64) -> Result<Printed, AllocError>
-        ensures { MatchResult result (λ p. Performed self.old.materials.items (Command.Card card alpha gamma) p self.new.materials.items) (λ _. self.new.materials.items ≡ self.old.materials.items) }
+    // The number of the material that is added.
+    fn add(&mut self, material: Material) -> Result<usize, AllocError>
+        ensures { MatchResult result (λ n. (n ≡ length self.old) × (self.new ≡ self.old ++ material ∷ [])) (λ _. self.new ≡ self.old) }
     {
-        let name = name_of_card(&card);
-        match law_of(card, alpha, gamma) {
+        let number = self.materials.len();
+        self.materials.push(material)?;
+        Ok(number)
+    }
+
+    fn add_card(&mut self, line: CardLine) -> Result<Printed, AllocError>
+        ensures { MatchResult result (λ p. Performed self.old (Card line) p self.new) (λ _. self.new ≡ self.old) }
+    {
+        let name = Name::from(&line.card);
+        match line.law() {
             Ok(law) => {
-                let number = self.materials.len();
-                self.materials.push(Material::Card(law))?;
+                let number = self.add(Material::Card(law))?;
                 Ok(Printed::Answered(Answer::Card { name, number, law }))
             }
             Err(refusal) => Ok(Printed::Refused(refusal)),
         }
     }
 
-    fn add_points(
-        &mut self,
-        points: Vec<Point>,
-        compression: i64,
-        tension: i64,
-    ) -> Result<Printed, AllocError>
-        ensures { MatchResult result (λ p. Performed self.old.materials.items (Command.Points points compression tension) p self.new.materials.items) (λ _. self.new.materials.items ≡ self.old.materials.items) }
+    fn add_points(&mut self, line: PointsLine) -> Result<Printed, AllocError>
+        ensures { MatchResult result (λ p. Performed self.old (Points line) p self.new) (λ _. self.new ≡ self.old) }
     {
-        match PointLaw::new(points, compression, tension) {
+        match line.law() {
             Ok(law) => {
-                let number = self.materials.len();
-                self.materials.push(Material::Points(law))?;
+                let number = self.add(Material::Points(law))?;
                 Ok(Printed::Answered(Answer::Points { number }))
             }
             Err(refusal) => Ok(Printed::Refused(refusal)),
@@ -110,19 +83,19 @@ impl Job {
     }
 
     fn stress(&self, number: i64, strain: i32) -> Printed
-        ensures { Performed self.now.materials.items (Command.Stress number strain) result self.now.materials.items }
+        ensures { Performed self.now (Stress number strain) result self.now }
     {
-        let Ok(place) = usize::try_from(number) else {
-            return Printed::Refused(Refusal::NoLaw);
-        };
-        match self.materials.stress(place, strain) {
+        let stress = usize::try_from(number)
+            .ok()
+            .and_then(|place| self.materials.stress(place, strain));
+        match stress {
             Some(stress) => Printed::Answered(Answer::Stress { stress }),
             None => Printed::Refused(Refusal::NoLaw),
         }
     }
 
     fn reach(&self, number: i64, stress: i32) -> Printed
-        ensures { Performed self.now.materials.items (Command.Reach number stress) result self.now.materials.items }
+        ensures { Performed self.now (Reach number stress) result self.now }
     {
         match reach(&self.materials, number, stress) {
             Ok(strain) => Printed::Answered(Answer::Reach { strain }),
@@ -132,15 +105,11 @@ impl Job {
 
     // Does what the command says, and answers the line to print; want of memory changes nothing.
     pub fn perform(&mut self, command: Command) -> Result<Printed, AllocError>
-        ensures { MatchResult result (λ p. Performed self.old.materials.items command p self.new.materials.items) (λ _. self.new.materials.items ≡ self.old.materials.items) }
+        ensures { MatchResult result (λ p. Performed self.old command p self.new) (λ _. self.new ≡ self.old) }
     {
         match command {
-            Command::Card { card, alpha, gamma } => self.add_card(card, alpha, gamma),
-            Command::Points {
-                points,
-                compression,
-                tension,
-            } => self.add_points(points, compression, tension),
+            Command::Card(line) => self.add_card(line),
+            Command::Points(line) => self.add_points(line),
             Command::Stress { number, strain } => Ok(self.stress(number, strain)),
             Command::Reach { number, stress } => Ok(self.reach(number, stress)),
         }
@@ -153,21 +122,19 @@ impl Job {
         number: u64,
         line: &[u8],
     ) -> Result<Option<Printed>, AllocError>
-        ensures { MatchResult result (λ p. Prints self.old.materials.items number line.now p self.new.materials.items) (λ _. self.new.materials.items ≡ self.old.materials.items) }
+        ensures { MatchResult result (λ p. Prints self.old number line.now p self.new) (λ _. self.new ≡ self.old) }
     {
         let words = words(heap, line)?;
         if is_remark(&words) {
             return Ok(None);
         }
-        match read(heap, &words)? {
-            Ok(command) => {
-                let printed = self.perform(command)?;
-                Ok(Some(printed))
-            }
-            Err(fault) => Ok(Some(Printed::Unreadable {
+        match read(heap, &words) {
+            Ok(command) => Ok(Some(self.perform(command)?)),
+            Err(Unread::Fault(fault)) => Ok(Some(Printed::Unreadable {
                 line: number,
                 fault,
             })),
+            Err(Unread::Memory(error)) => Err(error),
         }
     }
 }

@@ -10,3 +10,4 @@ pub mod printed;
 pub mod read;
 #[cfg(test)]
 mod tests;
+mod word;

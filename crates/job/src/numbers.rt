@@ -3,9 +3,13 @@ ghost use Rattle.std.specs.Prelude.{◌≡◌, ℕ, List, length, IfOk, MatchOpt
 ghost use Rattle.std.specs.List.{AllByRecursion};
 ghost use Rattle.refusal.specs.First.{FirstOut};
 ghost use Rattle.words.specs.Words.{texts};
+ghost use Rattle.job.specs.declared.fault.Fault.TheVariants.{NotWhole};
+ghost use Rattle.job.specs.Faults.{UnreadBy};
 ghost use Rattle.job.specs.Numbers.{Pairwise, IsReal, IsWhole, Real, Whole};
 
-use std::alloc::{AllocError, Global};
+use crate::fault::{Fault, Unread};
+use crate::word::parsed;
+use std::alloc::Global;
 
 // A sort of number: which words are one, and which number each is.
 pub trait Number: Copy {
@@ -28,13 +32,7 @@ impl Number for f64 {
     ghost value = { Real };
 
     fn read(word: &[u8]) -> Option<f64> {
-        let Ok(text) = std::str::from_utf8(word) else {
-            return None;
-        };
-        match text.parse::<f64>() {
-            Ok(x) => Some(x),
-            Err(_) => None,
-        }
+        parsed(word)
     }
 }
 
@@ -47,13 +45,7 @@ impl Number for i64 {
     ghost value = { Whole };
 
     fn read(word: &[u8]) -> Option<i64> {
-        let Ok(text) = std::str::from_utf8(word) else {
-            return None;
-        };
-        match text.parse::<i64>() {
-            Ok(n) => Some(n),
-            Err(_) => None,
-        }
+        parsed(word)
     }
 }
 
@@ -63,28 +55,21 @@ pub(crate) fn numbers<T: Number, const N: usize>(words: &[&[u8]]) -> Result<[T; 
     ensures { MatchResult result (λ xs. AllByRecursion T.Number.form (texts words.now) × Pairwise T.Number.value (texts words.now) xs) (λ p. FirstOut T.Number.form (texts words.now) p) }
 {
     let mut numbers = [T::ZERO; N];
-    for i in 0..N {
-        let Some(x) = T::read(words[i]) else {
-            return Err(i);
-        };
-        numbers[i] = x;
+    for (place, word) in words.iter().enumerate() {
+        numbers[place] = T::read(word).ok_or(place)?;
     }
     Ok(numbers)
 }
 
-// The same of as many words as there are.
-pub(crate) fn number_list<T: Number + Drop>(
-    heap: Global,
-    words: &[&[u8]],
-) -> Result<Result<Vec<T>, usize>, AllocError>
-    ensures { IfOk result (λ read. MatchResult read (λ xs. AllByRecursion T.Number.form (texts words.now) × Pairwise T.Number.value (texts words.now) xs.items) (λ p. FirstOut T.Number.form (texts words.now) p)) }
+// As many whole numbers as there are words, or the place of the first word that is none.
+pub(crate) fn whole_numbers(heap: Global, words: &[&[u8]]) -> Result<Vec<i64>, Unread>
+    ensures read { MatchResult result (λ v. AllByRecursion IsWhole (texts words.now) × Pairwise Whole (texts words.now) v.items) (λ e. UnreadBy (λ f. (p : ℕ) × (f ≡ NotWhole p) × FirstOut IsWhole (texts words.now) p) e) }
+    ensures many { IfOk result (λ v. length v.items ≡ length words.now) }
 {
     let mut numbers = Vec::new(heap);
-    for i in 0..words.len() {
-        let Some(x) = T::read(words[i]) else {
-            return Ok(Err(i));
-        };
-        numbers.push(x)?;
+    for (place, word) in words.iter().enumerate() {
+        let number = i64::read(word).ok_or(Fault::NotWhole { place })?;
+        numbers.push(number)?;
     }
-    Ok(Ok(numbers))
+    Ok(numbers)
 }

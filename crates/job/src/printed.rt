@@ -32,10 +32,7 @@ impl fmt::Display for Answer {
 
     fn fmt<W: fmt::Write>(&self, f: &mut fmt::Formatter<W>) -> fmt::Result {
         match self {
-            Answer::Card { name, number, law } => {
-                let word = name.word();
-                write!(f, "{word} {number} {law}")
-            }
+            Answer::Card { name, number, law } => write!(f, "{name} {number} {law}"),
             Answer::Points { number } => write!(f, "points {number}"),
             Answer::Stress { stress } => write!(f, "stress {stress}"),
             Answer::Reach { strain } => write!(f, "reach {strain}"),

@@ -1,34 +1,18 @@
 // From the words of a line to its command.
-ghost use Rattle.std.specs.Prelude.{◌≡◌, ◌%◌, [], ◌∷◌, length, take, drop, IfOk, MatchOption, MatchResult, ◌≢◌};
+ghost use Rattle.std.specs.Prelude.{◌≡◌, [], ◌∷◌, take, drop, MatchResult};
 ghost use Rattle.words.specs.Words.{texts};
+ghost use Rattle.job.specs.declared.command.Command.TheVariants.{Points};
 ghost use Rattle.job.specs.Numbers.{Pairwise, Real, Whole};
-ghost use Rattle.job.specs.Forms.{spelling};
-ghost use Rattle.job.specs.Commands.{real_count, name as name_of_command, written_points, Numbers, Spells};
-ghost use Rattle.job.specs.Faults.{Fixed, Narrow, Misses, Faulty};
+ghost use Rattle.job.specs.Commands.{real_count, name as name_of_command, Numbers, Spells};
+ghost use Rattle.job.specs.Faults.{Fixed, Narrow, Misses, Faulty, UnreadBy};
 
-use crate::command::{Command, Name};
-use crate::fault::Fault;
-use crate::numbers::{Number, number_list, numbers};
+use crate::command::{CardLine, Command, Name, PointsLine};
+use crate::fault::{Fault, Unread};
+use crate::numbers::{numbers, whole_numbers};
+use crate::word::parsed;
 use cards::written::{DeckFigures, SteelFigures, UhpcFigures, WrittenCard};
 use laws::point::Point;
-use std::alloc::{AllocError, Global};
-
-fn name_of(word: &[u8]) -> Option<Name>
-    ensures { MatchOption result ((n : Name) → word.now ≢ spelling n) (λ n. word.now ≡ spelling n) }
-{
-    let Ok(text) = std::str::from_utf8(word) else {
-        return None;
-    };
-    match text {
-        "uhpc" => Some(Name::Uhpc),
-        "deck" => Some(Name::Deck),
-        "steel" => Some(Name::Steel),
-        "points" => Some(Name::Points),
-        "stress" => Some(Name::Stress),
-        "reach" => Some(Name::Reach),
-        _ => None,
-    }
-}
+use std::alloc::Global;
 
 // The numbers that follow the word of a command: those of f64's parse first, then the whole ones.
 fn arguments<const R: usize, const W: usize>(
@@ -42,57 +26,12 @@ fn arguments<const R: usize, const W: usize>(
         return Err(Fault::Form { name });
     }
     let (front, back) = words.split_at(R);
-    match numbers(front) {
-        Ok(reals) => match numbers(back) {
-            Ok(wholes) => Ok((reals, wholes)),
-            Err(place) => Err(Fault::NotWhole { place: R + place }),
-        },
-        Err(place) => Err(Fault::NotReal { place }),
+    let reals = numbers(front).map_err(|place| Fault::NotReal { place })?;
+    // A `match`, since a closure that adds to the place would need a contract of its own.
+    match numbers(back) {
+        Ok(wholes) => Ok((reals, wholes)),
+        Err(place) => Err(Fault::NotWhole { place: R + place }),
     }
-}
-
-fn uhpc(words: &[&[u8]]) -> Result<Command, Fault>
-    ensures { MatchResult result (λ c. (name_of_command c ≡ Name.Uhpc) × Numbers (texts words.now) c) (λ f. Misses Name.Uhpc (texts words.now) f) }
-{
-    let (figures, factors) = arguments::<5, 2>(Name::Uhpc, words)?;
-    let [modulus, strength, cracking, ultimate, localization] = figures;
-    let [alpha, gamma] = factors;
-    let card = WrittenCard::Uhpc(UhpcFigures {
-        modulus,
-        strength,
-        cracking,
-        ultimate,
-        localization,
-    });
-    Ok(Command::Card { card, alpha, gamma })
-}
-
-fn deck(words: &[&[u8]]) -> Result<Command, Fault>
-    ensures { MatchResult result (λ c. (name_of_command c ≡ Name.Deck) × Numbers (texts words.now) c) (λ f. Misses Name.Deck (texts words.now) f) }
-{
-    let (figures, factors) = arguments::<3, 2>(Name::Deck, words)?;
-    let [modulus, strength, ultimate] = figures;
-    let [alpha, gamma] = factors;
-    let card = WrittenCard::Deck(DeckFigures {
-        modulus,
-        strength,
-        ultimate,
-    });
-    Ok(Command::Card { card, alpha, gamma })
-}
-
-fn steel(words: &[&[u8]]) -> Result<Command, Fault>
-    ensures { MatchResult result (λ c. (name_of_command c ≡ Name.Steel) × Numbers (texts words.now) c) (λ f. Misses Name.Steel (texts words.now) f) }
-{
-    let (figures, factors) = arguments::<3, 2>(Name::Steel, words)?;
-    let [modulus, yielding, rupture] = figures;
-    let [alpha, gamma] = factors;
-    let card = WrittenCard::Steel(SteelFigures {
-        modulus,
-        yielding,
-        rupture,
-    });
-    Ok(Command::Card { card, alpha, gamma })
 }
 
 // A number of 64 bits and one of 32, which the two commands that look into a material take.
@@ -100,78 +39,86 @@ fn number_and_narrow(name: Name, words: &[&[u8]]) -> Result<(i64, i32), Fault>
     requires { Fixed name 0 2 × Narrow name }
     ensures { MatchResult result (λ p. Pairwise Whole (texts words.now) (p.0 ∷ p.1 ∷ [])) (λ f. Misses name (texts words.now) f) }
 {
-    let (_, numbers) = arguments::<0, 2>(name, words)?;
-    let [number, wide] = numbers;
-    match i32::try_from(wide) {
-        Ok(narrow) => Ok((number, narrow)),
-        Err(_) => Err(Fault::NotNarrow { place: 1 }),
-    }
+    let (_, [number, wide]) = arguments::<0, 2>(name, words)?;
+    let narrow = i32::try_from(wide).map_err(|_| Fault::NotNarrow { place: 1 })?;
+    Ok((number, narrow))
 }
 
-fn stress(words: &[&[u8]]) -> Result<Command, Fault>
-    ensures { MatchResult result (λ c. (name_of_command c ≡ Name.Stress) × Numbers (texts words.now) c) (λ f. Misses Name.Stress (texts words.now) f) }
-{
-    let (number, strain) = number_and_narrow(Name::Stress, words)?;
-    Ok(Command::Stress { number, strain })
-}
-
-fn reach(words: &[&[u8]]) -> Result<Command, Fault>
-    ensures { MatchResult result (λ c. (name_of_command c ≡ Name.Reach) × Numbers (texts words.now) c) (λ f. Misses Name.Reach (texts words.now) f) }
-{
-    let (number, stress) = number_and_narrow(Name::Reach, words)?;
-    Ok(Command::Reach { number, stress })
-}
-
-// Each two numbers are a point: its strain, then its stress.
-fn points_of(heap: Global, numbers: &[i64]) -> Result<Vec<Point>, AllocError>
-    requires { length numbers.now % 2 ≡ 0 }
-    ensures { IfOk result (λ v. written_points v.items ≡ numbers.now) }
-{
-    let mut points = Vec::new(heap);
-    let mut at = 0;
-    while at < numbers.len() {
-        points.push(Point {
-            strain: numbers[at],
-            stress: numbers[at + 1],
-        })?;
-        at += 2;
-    }
-    Ok(points)
-}
-
-fn points(heap: Global, words: &[&[u8]]) -> Result<Result<Command, Fault>, AllocError>
-    ensures { IfOk result (λ read. MatchResult read (λ c. (name_of_command c ≡ Name.Points) × Numbers (texts words.now) c) (λ f. Misses Name.Points (texts words.now) f)) }
+// Two limits, and then the strain and the stress of each point.
+fn points_line(heap: Global, words: &[&[u8]]) -> Result<PointsLine, Unread>
+    ensures { MatchResult result (λ line. Numbers (texts words.now) (Points line)) (λ e. UnreadBy (Misses Name.Points (texts words.now)) e) }
 {
     if words.len() < 2 || words.len() % 2 != 0 {
-        return Ok(Err(Fault::Form { name: Name::Points }));
+        return Err(Fault::Form { name: Name::Points }.into());
     }
-    match number_list::<i64>(heap, words)? {
-        Ok(numbers) => {
-            let points = points_of(heap, &numbers[2..])?;
-            Ok(Ok(Command::Points {
-                points,
-                compression: numbers[0],
-                tension: numbers[1],
-            }))
+    let numbers = whole_numbers(heap, words)?;
+    let (limits, rest) = numbers.split_at(2);
+    let (pairs, _) = rest.as_chunks::<2>();
+    let points = pairs
+        .iter()
+        .map(|&[strain, stress]| Point { strain, stress })
+        .collect(heap)?;
+    Ok(PointsLine {
+        points,
+        compression: limits[0],
+        tension: limits[1],
+    })
+}
+
+// The command of that name, with the numbers that follow its word.
+fn command(heap: Global, name: Name, words: &[&[u8]]) -> Result<Command, Unread>
+    ensures { MatchResult result (λ c. (name_of_command c ≡ name) × Numbers (texts words.now) c) (λ e. UnreadBy (Misses name (texts words.now)) e) }
+{
+    match name {
+        Name::Uhpc => {
+            let (figures, [alpha, gamma]) = arguments::<5, 2>(name, words)?;
+            let [modulus, strength, cracking, ultimate, localization] = figures;
+            let card = WrittenCard::Uhpc(UhpcFigures {
+                modulus,
+                strength,
+                cracking,
+                ultimate,
+                localization,
+            });
+            Ok(Command::Card(CardLine { card, alpha, gamma }))
         }
-        Err(place) => Ok(Err(Fault::NotWhole { place })),
+        Name::Deck => {
+            let (figures, [alpha, gamma]) = arguments::<3, 2>(name, words)?;
+            let [modulus, strength, ultimate] = figures;
+            let card = WrittenCard::Deck(DeckFigures {
+                modulus,
+                strength,
+                ultimate,
+            });
+            Ok(Command::Card(CardLine { card, alpha, gamma }))
+        }
+        Name::Steel => {
+            let (figures, [alpha, gamma]) = arguments::<3, 2>(name, words)?;
+            let [modulus, yielding, rupture] = figures;
+            let card = WrittenCard::Steel(SteelFigures {
+                modulus,
+                yielding,
+                rupture,
+            });
+            Ok(Command::Card(CardLine { card, alpha, gamma }))
+        }
+        Name::Points => Ok(Command::Points(points_line(heap, words)?)),
+        Name::Stress => {
+            let (number, strain) = number_and_narrow(name, words)?;
+            Ok(Command::Stress { number, strain })
+        }
+        Name::Reach => {
+            let (number, stress) = number_and_narrow(name, words)?;
+            Ok(Command::Reach { number, stress })
+        }
     }
 }
 
 // The command that the words of a line are, or why they are none.
-pub fn read(heap: Global, words: &[&[u8]]) -> Result<Result<Command, Fault>, AllocError>
-    ensures { IfOk result (λ read. MatchResult read (λ c. Spells (texts words.now) c) (λ f. Faulty (texts words.now) f)) }
+pub fn read(heap: Global, words: &[&[u8]]) -> Result<Command, Unread>
+    ensures { MatchResult result (λ c. Spells (texts words.now) c) (λ e. UnreadBy (Faulty (texts words.now)) e) }
 {
-    let Some((word, rest)) = words.split_first() else {
-        return Ok(Err(Fault::Unknown));
-    };
-    match name_of(word) {
-        Some(Name::Uhpc) => Ok(uhpc(rest)),
-        Some(Name::Deck) => Ok(deck(rest)),
-        Some(Name::Steel) => Ok(steel(rest)),
-        Some(Name::Points) => points(heap, rest),
-        Some(Name::Stress) => Ok(stress(rest)),
-        Some(Name::Reach) => Ok(reach(rest)),
-        None => Ok(Err(Fault::Unknown)),
-    }
+    let (word, rest) = words.split_first().ok_or(Fault::Unknown)?;
+    let name = parsed(word).ok_or(Fault::Unknown)?;
+    command(heap, name, rest)
 }

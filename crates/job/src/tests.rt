@@ -7,9 +7,7 @@ use std::test::Fail;
 fn output(heap: Global, lines: &[&[u8]]) -> Result<String, Fail> {
     let mut job = Job::new(heap);
     let mut out = String::new(heap);
-    let mut number: u64 = 0;
-    for line in lines {
-        number = number.saturating_add(1);
+    for (number, line) in (1u64..).zip(lines) {
         if let Some(printed) = job.line(heap, number, line)? {
             let text = printed.to_string(heap)?;
             out.push_str(text.as_str())?;

@@ -1,35 +1,15 @@
 // Cuts a line of any bytes into its words.
 #![tactic(auto)]
 
-ghost use Rattle.std.specs.Prelude.{◌≡◌, ℕ, ◌<◌, ◌≤◌, List, length, IfOk, ◌≢◌, slice_index};
-ghost use Rattle.words.specs.Words.{blank, Run, WordsOf, texts};
+ghost use Rattle.std.specs.Prelude.{◌≡◌, ℕ, List, IfOk};
+ghost use Rattle.words.specs.Words.{blank, WordsOf, texts};
 
 use std::alloc::{AllocError, Global};
 
-fn is_blank(b: u8) -> bool
-    ensures { result ≡ blank b }
+fn is_blank(byte: u8) -> bool
+    ensures { result ≡ blank byte }
 {
-    b == b' ' || b == b'\t' || b == b'\r'
-}
-
-// How many bytes at the front are blanks, or where `blanks` is false are none.
-fn run_len(bytes: &[u8], blanks: bool) -> usize
-    ensures within { result ≤ length bytes.now }
-    ensures same { (i : ℕ) → i < result → blank (slice_index bytes.now i) ≡ blanks }
-    ensures ends { result < length bytes.now → blank (slice_index bytes.now result) ≢ blanks }
-{
-    let mut n = 0;
-    while n < bytes.len() && is_blank(bytes[n]) == blanks {
-        n += 1;
-    }
-    n
-}
-
-// The longest run of blanks at the front, or where `blanks` is false of bytes that are none, and what follows it.
-fn split_run<'a>(bytes: &'a [u8], blanks: bool) -> (&'a [u8], &'a [u8])
-    ensures { Run blanks bytes.now result.0.now result.1.now }
-{
-    bytes.split_at(run_len(bytes, blanks))
+    matches!(byte, b' ' | b'\t' | b'\r')
 }
 
 // The words of a line: its longest runs of bytes that are no blanks. They borrow the line.
@@ -37,14 +17,9 @@ pub fn words<'a>(heap: Global, line: &'a [u8]) -> Result<Vec<&'a [u8]>, AllocErr
     ensures items { IfOk result (λ v. WordsOf line.now (texts v.items)) }
     ensures only { IfOk result (λ v. (ws : List (List ℕ)) → WordsOf line.now ws → ws ≡ texts v.items) }
 {
-    let mut out = Vec::new(heap);
-    let mut rest = split_run(line, true).1;
-    while !rest.is_empty() {
-        let (word, after) = split_run(rest, false);
-        out.push(word)?;
-        rest = split_run(after, true).1;
-    }
-    Ok(out)
+    line.split(|byte| is_blank(*byte))
+        .filter(|word| !word.is_empty())
+        .collect(heap)
 }
 
 #[cfg(test)]
