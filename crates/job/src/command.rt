@@ -40,11 +40,7 @@ impl CardLine {
     pub(crate) fn law(self) -> Result<TwoLine, Refusal>
         ensures { MatchResult result (λ l. Makes self l) (λ e. MakesNone self e) }
     {
-        let checked = self.card.check().map_err(|refused| refused.refusal)?;
-        let reduced = checked
-            .reduce(self.alpha, self.gamma)
-            .map_err(|refused| refused.refusal)?;
-        Ok(reduced.law())
+        Ok(self.card.check()?.reduce(self.alpha, self.gamma)?.law())
     }
 }
 

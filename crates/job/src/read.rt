@@ -10,7 +10,7 @@ use crate::command::{CardLine, Command, Name, PointsLine};
 use crate::fault::{Fault, Unread};
 use crate::numbers::{numbers, whole_numbers};
 use crate::word::parsed;
-use cards::written::{DeckFigures, SteelFigures, UhpcFigures, WrittenCard};
+use cards::written::WrittenCard;
 use laws::point::Point;
 use std::alloc::Global;
 
@@ -72,34 +72,17 @@ fn command(heap: Global, name: Name, words: &[&[u8]]) -> Result<Command, Unread>
     match name {
         Name::Uhpc => {
             let (figures, [alpha, gamma]) = arguments::<5, 2>(name, words)?;
-            let [modulus, strength, cracking, ultimate, localization] = figures;
-            let card = WrittenCard::Uhpc(UhpcFigures {
-                modulus,
-                strength,
-                cracking,
-                ultimate,
-                localization,
-            });
+            let card = WrittenCard::Uhpc(figures.into());
             Ok(Command::Card(CardLine { card, alpha, gamma }))
         }
         Name::Deck => {
             let (figures, [alpha, gamma]) = arguments::<3, 2>(name, words)?;
-            let [modulus, strength, ultimate] = figures;
-            let card = WrittenCard::Deck(DeckFigures {
-                modulus,
-                strength,
-                ultimate,
-            });
+            let card = WrittenCard::Deck(figures.into());
             Ok(Command::Card(CardLine { card, alpha, gamma }))
         }
         Name::Steel => {
             let (figures, [alpha, gamma]) = arguments::<3, 2>(name, words)?;
-            let [modulus, yielding, rupture] = figures;
-            let card = WrittenCard::Steel(SteelFigures {
-                modulus,
-                yielding,
-                rupture,
-            });
+            let card = WrittenCard::Steel(figures.into());
             Ok(Command::Card(CardLine { card, alpha, gamma }))
         }
         Name::Points => Ok(Command::Points(points_line(heap, words)?)),
