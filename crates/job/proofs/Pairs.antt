@@ -16,7 +16,7 @@ abbrev pub places : {X : Type 0} → ℕ → ℕ → List X → X → List X
 places zero i xs d = []
 places (suc n) i xs d = get_or xs i d ∷ places n (suc i) xs d
 
-pub places_all : {X : Type 0} (n i : ℕ) (xs : List X) (d : X) → length xs ≡ i + n → places n i xs d ≡ drop i xs
+places_all : {X : Type 0} (n i : ℕ) (xs : List X) (d : X) → length xs ≡ i + n → places n i xs d ≡ drop i xs
 places_all zero i xs d h = sym (drop_all i xs (omega arith))
 places_all (suc n) i xs d h =
     ap (λ ys. get_or xs i d ∷ ys) (places_all n (suc i) xs d (omega arith) ∙ ap (λ k. drop k xs) (sym (add-one i))) ∙ sym (drop_more xs i d (omega arith))

@@ -50,7 +50,7 @@ Faulty (word ∷ arguments) (NotReal place) = (name : Name) × (word ≡ spellin
 Faulty (word ∷ arguments) (NotWhole place) = (name : Name) × (word ≡ spelling name) × Misses name arguments (NotWhole place)
 Faulty (word ∷ arguments) (NotNarrow place) = (name : Name) × (word ≡ spelling name) × Misses name arguments (NotNarrow place)
 
--- where the words are at fault, the fault is one of these
+-- the fault is one of these, unless memory ran out
 abbrev pub UnreadBy : (Fault → Type 0) → Unread → Type 0
 UnreadBy P (AtFault fault) = P fault
 UnreadBy P (Memory error) = Unit {0}

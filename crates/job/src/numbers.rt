@@ -61,7 +61,7 @@ pub(crate) fn numbers<T: Number, const N: usize>(words: &[&[u8]]) -> Result<[T; 
     Ok(numbers)
 }
 
-// As many whole numbers as there are words, or the place of the first word that is none.
+// The same as a list of whole numbers, since how many words there are is known only when the line is read.
 pub(crate) fn whole_numbers(heap: Global, words: &[&[u8]]) -> Result<Vec<i64>, Unread>
     ensures read { MatchResult result (λ v. AllByRecursion IsWhole (texts words.now) × Pairwise Whole (texts words.now) v.items) (λ e. UnreadBy (λ f. (p : ℕ) × (f ≡ NotWhole p) × FirstOut IsWhole (texts words.now) p) e) }
     ensures many { IfOk result (λ v. length v.items ≡ length words.now) }

@@ -4,13 +4,6 @@ use Rattle.laws.specs.TwoLine.{elastic}
 use Rattle.laws.proofs.Whole.{scale_fits}
 use Rattle.cards.proofs.two_line.law.elastic.Goals as goal
 
-pub overflow_mul-product : goal.overflow_mul-product
-overflow_mul-product c =
-    let f = c.ranges.strain in
-    let e : SFits w64 c.args.strain = omega (arith, ints) in
-    let m : c.args.modulus < 2 ^ 63 = omega arith in
-    simp (to_z-of_z, to_z_pos) (scale_fits _ _ (omega arith) f)
-
 pub returns : goal.returns
 unfolding elastic
 returns c =
