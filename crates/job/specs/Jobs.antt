@@ -10,7 +10,7 @@ use Rattle.kits.specs.Kits.{stress_of, numbered}
 use Rattle.kits.specs.Reach.{Reaches}
 use Rattle.cards.specs.declared.written.Figures.{Figures}
 use Rattle.cards.specs.declared.two_line.TwoLine.{TwoLine}
-use Rattle.cards.specs.Kinds.{WrittenCard, figures}
+use Rattle.cards.specs.Kinds.{figures}
 use Rattle.cards.specs.Cards.{Checked, FigureRefused, Reduced, FactorRefused}
 use Rattle.words.specs.Words.{WordsOf}
 use Rattle.job.specs.Commands.{card_name, Spells}
