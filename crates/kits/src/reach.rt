@@ -55,6 +55,7 @@ pub fn reach<K: Kit>(kit: &K, number: i64, stress: i32) -> Result<i32, Refusal>
     ensures { Reaches (K.laws kit.now) number stress result }
 {
     let number = law_number(kit, number)? as usize;
+    // The kit's answer is taken apart here and in a section's put: docs/DECISIONS.md, forms that stay.
     let Some(limits) = kit.limits(number) else {
         return Err(Refusal::NoLaw);
     };

@@ -40,7 +40,7 @@ impl<K: Kit> Row<K> {
     pub(crate) fn force(&self, plane: Plane) -> i64
         ensures { result ≡ force_of (K.laws self.now.kit) self.now.fibres.items plane.curvature plane.top }
     {
-        // The project's rules want two plain loops: this one adds force.
+        // A plain loop, and another for the moment: docs/DECISIONS.md, forms that stay.
         let mut sum = 0;
         for fibre in &self.fibres {
             sum += self.pull(plane, fibre);
@@ -52,7 +52,6 @@ impl<K: Kit> Row<K> {
     pub(crate) fn moment(&self, load: &Load, plane: Plane) -> i64
         ensures { result ≡ moment_of (K.laws self.now.kit) self.now.fibres.items load.now.force load.now.depth plane.curvature plane.top }
     {
-        // The second of the two plain loops that the project's rules want: this one adds moment.
         let mut sum = 0;
         for fibre in &self.fibres {
             sum += self.pull(plane, fibre) * fibre.depth as i64;

@@ -50,7 +50,7 @@ impl<K: Kit> Section<K> {
         let Ok(number) = u8::try_from(material) else {
             return Err(Refusal::NoLaw);
         };
-        // The project's rules want the kit's answer taken apart here.
+        // The kit's answer is taken apart here and in reach: docs/DECISIONS.md, forms that stay.
         let Some(_) = self.row.kit.limits(number as usize) else {
             return Err(Refusal::NoLaw);
         };
