@@ -18,7 +18,7 @@ fn checked(place: u8, figure: Figure, written: f64) -> Result<u32, Refusal>
 }
 
 impl UhpcFigures<f64> {
-    // Each of these three takes the figures in their order, and refuses the first out of its range.
+    // Each of these three takes the figures in their order, and refuses the first out of its range; they are three, as each kind has fields and ranges of its own.
     fn check(&self) -> Result<UhpcFigures<u32>, Refusal>
         ensures { MatchResult result (λ w. Checked (uhpc_figures self.now) (uhpc_figures w) × AllByRecursion InRange (uhpc_figures w)) (FigureRefused (uhpc_figures self.now)) }
     {

@@ -1,5 +1,5 @@
 // The figures of a card by its kind, and a card as an engineer writes it.
-ghost use Rattle.std.specs.Prelude.{◌≡◌, map};
+ghost use Rattle.std.specs.Prelude.{◌≡◌};
 
 use refusal::Refusal;
 
@@ -40,7 +40,7 @@ pub enum Figures<N> {
 // Moduli and stresses in ksi, strains as they are.
 pub type WrittenCard = Figures<f64>;
 
-// In the order in which they are written.
+// Each of these three takes the numbers in the order in which they are written; they are three, as each kind has fields of its own.
 impl<N> From<[N; 5]> for UhpcFigures<N> {
     ghost use Rattle.cards.specs.Kinds.{uhpc_numbers};
 

@@ -49,7 +49,7 @@ impl Number for i64 {
     }
 }
 
-// The words as numbers, or the place of the first that is none.
+// The words as numbers, or the place of the first that is none: a place, as only the caller knows which fault it is.
 pub(crate) fn numbers<T: Number, const N: usize>(words: &[&[u8]]) -> Result<[T; N], usize>
     requires { length words.now ≡ N }
     ensures { MatchResult result (λ xs. AllByRecursion T.Number.form (texts words.now) × Pairwise T.Number.value (texts words.now) xs) (λ p. FirstOut T.Number.form (texts words.now) p) }
