@@ -1,5 +1,5 @@
 -- Every law that a number of a kit reaches is lawful, so that its stress never falls.
-use Rattle.std.specs.Prelude.{ℕ, zero, suc, Bool, true, false, cond, List, [], ◌∷◌, map, ℤ, pos, ◌≤ℤ◌, Some, None, Option, nat_lt}
+use Rattle.std.specs.Prelude.{ℕ, zero, suc, Bool, true, false, cond, List, [], ◌∷◌, ◌++◌, map, ℤ, pos, ◌≤ℤ◌, Some, None, Option, nat_lt}
 use Rattle.std.proofs.Common.{arith}
 use Rattle.std.specs.Option.{unwrap_or, option_map}
 use Rattle.std.specs.List.{AllByRecursion, slice_get}
@@ -11,6 +11,11 @@ use Rattle.kits.specs.Kits.{reached, stress_of, stress_at}
 pub map_lawful : {L : Type 0} (meaning : L → Meaning) → ((x : L) → Lawful (meaning x)) → (xs : List L) → AllByRecursion Lawful (map meaning xs)
 map_lawful meaning lawful [] = tt
 map_lawful meaning lawful (x ∷ xs) = (lawful x, map_lawful meaning lawful xs)
+
+-- the laws of two lists, each lawful
+pub append_lawful : (first second : List Meaning) → AllByRecursion Lawful first → AllByRecursion Lawful second → AllByRecursion Lawful (first ++ second)
+append_lawful [] second f s = s
+append_lawful (law ∷ first) second f s = (f.0, append_lawful first second f.1 s)
 
 -- there is no law, or it is lawful
 abbrev pub Sound : Option Meaning → Type 0

@@ -1,8 +1,7 @@
 // Two kits joined to one.
 ghost use Rattle.std.specs.Prelude.{◌≡◌};
-ghost use Rattle.std.proofs.ByRecursion.{All-append};
-ghost use Rattle.laws.specs.Meaning.{Lawful};
 ghost use Rattle.kits.specs.Joined.{joined_laws, JoinedLaws};
+ghost use Rattle.kits.specs.KitsLawful.{append_lawful};
 
 use crate::kit::{Kit, MOST_LAWS};
 use laws::law::Limits;
@@ -38,7 +37,7 @@ impl<First: Kit, Second: Kit> Joined<First, Second> {
 impl<First: Kit, Second: Kit> Kit for Joined<First, Second> {
     ghost laws = { joined_laws First.Kit.laws Second.Kit.laws };
 
-    ghost lawful = { λ s. All-append Lawful (First.Kit.laws s.0) (Second.Kit.laws s.1) (First.Kit.lawful s.0) (Second.Kit.lawful s.1) };
+    ghost lawful = { λ s. append_lawful (First.Kit.laws s.0) (Second.Kit.laws s.1) (First.Kit.lawful s.0) (Second.Kit.lawful s.1) };
 
     fn count(&self) -> u8 {
         self.0.count().saturating_add(self.1.count())
