@@ -3,9 +3,10 @@ ghost use Rattle.std.specs.Prelude.{◌<◌};
 
 use crate::states::CheckedCard;
 use crate::two_line::{Plateaus, TwoLine};
-use crate::written::{Figures, WrittenCard};
+use crate::written::{DeckFigures, Figures, SteelFigures, UhpcFigures, WrittenCard};
 use laws::law::{Law, Limits};
 use refusal::Refusal;
+use std::process::Abort;
 use std::test::Fail;
 
 fn uhpc(figures: [f64; 5]) -> WrittenCard {
@@ -57,7 +58,49 @@ fn replaced<const N: usize>(figures: [f64; N], place: usize, figure: f64) -> [f6
     figures
 }
 
-// The next three tests loop alike: one function of them all would take a closure, and its bound may name no const parameter.
+// A kind of card, by its figures in their order.
+trait Kind<const N: usize> {
+    fn card(figures: [f64; N]) -> WrittenCard;
+}
+
+impl Kind<5> for UhpcFigures<f64> {
+    fn card(figures: [f64; 5]) -> WrittenCard {
+        uhpc(figures)
+    }
+}
+
+impl Kind<3> for DeckFigures<f64> {
+    fn card(figures: [f64; 3]) -> WrittenCard {
+        deck(figures)
+    }
+}
+
+impl Kind<3> for SteelFigures<f64> {
+    fn card(figures: [f64; 3]) -> WrittenCard {
+        steel(figures)
+    }
+}
+
+// Each figure is refused by its place, where it alone lies outside its range.
+fn each_is_refused<const N: usize, K: Kind<N>>(
+    rt: &impl Abort,
+    low: [f64; N],
+    under: [f64; N],
+    over: [f64; N],
+)
+    requires { N < 256 }
+{
+    for (place, (under, over)) in under.iter().zip(&over).enumerate() {
+        for x in outside(*under, *over) {
+            let figure = place as u8;
+            assert_eq!(rt;
+                refused(K::card(replaced(low, place, x))),
+                Some(Refusal::CardFigure { figure })
+            );
+        }
+    }
+}
+
 #[test]
 fn uhpc_ends(rt: HostRuntime) {
     let low = [100.0, 17.5, 0.75, 0.001, 0.0025];
@@ -78,15 +121,7 @@ fn uhpc_ends(rt: HostRuntime) {
         0.10000000000000002,
         0.10000000000000002,
     ];
-    for (place, (under, over)) in under.iter().zip(&over).enumerate() {
-        for x in outside(*under, *over) {
-            let figure = place as u8;
-            assert_eq!(rt;
-                refused(uhpc(replaced(low, place, x))),
-                Some(Refusal::CardFigure { figure })
-            );
-        }
-    }
+    each_is_refused::<5, UhpcFigures<f64>>(&rt, low, under, over);
     assert_eq!(rt;
         refused(uhpc([100.0, 17.0, 0.75, NAN, 0.1])),
         Some(Refusal::CardFigure { figure: 1 }),
@@ -101,15 +136,7 @@ fn deck_ends(rt: HostRuntime) {
     assert_eq!(rt; refused(deck([40000.0, 20.0, 0.1])), None);
     let under = [99.99999999999999, 1.9999999999999998, 0.0009999999999999998];
     let over = [40000.00000000001, 20.000000000000004, 0.10000000000000002];
-    for (place, (under, over)) in under.iter().zip(&over).enumerate() {
-        for x in outside(*under, *over) {
-            let figure = place as u8;
-            assert_eq!(rt;
-                refused(deck(replaced(low, place, x))),
-                Some(Refusal::CardFigure { figure })
-            );
-        }
-    }
+    each_is_refused::<3, DeckFigures<f64>>(&rt, low, under, over);
 }
 
 #[test]
@@ -119,15 +146,7 @@ fn steel_ends(rt: HostRuntime) {
     assert_eq!(rt; refused(steel([40000.0, 300.0, 0.1])), None);
     let under = [99.99999999999999, 0.9999999999999999, 0.0009999999999999998];
     let over = [40000.00000000001, 300.00000000000006, 0.10000000000000002];
-    for (place, (under, over)) in under.iter().zip(&over).enumerate() {
-        for x in outside(*under, *over) {
-            let figure = place as u8;
-            assert_eq!(rt;
-                refused(steel(replaced(low, place, x))),
-                Some(Refusal::CardFigure { figure })
-            );
-        }
-    }
+    each_is_refused::<3, SteelFigures<f64>>(&rt, low, under, over);
 }
 
 #[test]

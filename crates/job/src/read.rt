@@ -66,7 +66,7 @@ fn points_line(heap: Global, words: &[&[u8]]) -> Result<PointsLine, Unread>
 }
 
 // The command of that name, with the numbers that follow its word.
-// Each card has an arm of its own, as its figures have a type of their own: one function of all three would take a closure at `[f64; R]`, which no bound may name.
+// Each kind of card has an arm of its own: a trait over the three, with what each is called and made of, would be longer than the arms.
 fn command(heap: Global, name: Name, words: &[&[u8]]) -> Result<Command, Unread>
     ensures { MatchResult result (λ c. (name_of_command c ≡ name) × Numbers (texts words.now) c) (λ e. UnreadBy (Misses name (texts words.now)) e) }
 {
