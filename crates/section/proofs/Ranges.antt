@@ -23,10 +23,10 @@ ranged_taken before after position is h = rw is (removed before position h)
 -- ---- a fibre is put
 
 module _ (least written most : ℤ) (in_range : Within (record { least = least; written = written; most = most })) where
-  not_below : least ≤ℤ written
+  pub not_below : least ≤ℤ written
   not_below = le_z_yes (and_l (le_z least written) (le_z written most) in_range)
 
-  not_above : written ≤ℤ most
+  pub not_above : written ≤ℤ most
   not_above = le_z_yes (and_r (le_z least written) (le_z written most) in_range)
 
 module _ (depth area material initial : ℤ) (figures_in : AllByRecursion Within (fibre_figures depth area initial)) where

@@ -1,5 +1,6 @@
 // The calls that make a section and change it; one that is refused changes nothing.
 ghost use Rattle.std.specs.Prelude.{◌≡◌, IfOk};
+ghost use Rattle.section.specs.Held.{Standing};
 ghost use Rattle.section.specs.Calls.{first_book, Put, Take, Loads, AskedOf, TruthsOfBook};
 
 use super::Section;
@@ -87,6 +88,7 @@ impl<K: Kit> Section<K> {
     pub fn ask(&self, curvature: u32) -> Result<Ends, Refusal>
         ensures asked { AskedOf (K.Kit.laws self.now.kit) self.now.book curvature result }
         ensures truths { TruthsOfBook (K.Kit.laws self.now.kit) self.now.book curvature }
+        ensures standing { Standing self.now.book }
     {
         self.row.ask(&self.load, curvature)
     }

@@ -1,9 +1,9 @@
-use Rattle.std.proofs.Common.{rules}
+use Rattle.std.proofs.Common.{pos, arith, rules}
 use Rattle.std.specs.List.{AllByRecursion}
-use Rattle.std.proofs.lemmas.Int.{to_z-of_z}
+use Rattle.std.proofs.lemmas.Int.{ints, to_z-of_z}
 use Rattle.section.specs.Calls.{Within, fibre_figures}
 use Rattle.section.proofs.Materials.{no_byte, no_law, some_law}
-use Rattle.section.proofs.Ranges.{items_put, ranged_put}
+use Rattle.section.proofs.Ranges.{not_below, not_above, items_put, ranged_put}
 use Rattle.section.proofs.section.Section.put.Goals as goal
 
 pub returns-in_default-clause-book : goal.returns-in_default-clause-book
@@ -38,3 +38,21 @@ returns-clause-book g c =
     let law = some_law (g.K.Kit.laws s.row.kit) a.material c.in-Ok.number byte.0 byte.1 c.in-Some.field-0 c.in-Some.ensures in
     let items = items_put a.depth a.area a.material a.initial figures_in _ _ c.in-Ok.number c.ranges.depth c.ranges.area c.ranges.initial byte.1 c.push_reserved.ensures.items in
     rw (← c.self.view_is) record { room = search rules; figures_in = figures_in; law = law.0; law_is = law.1; position_is = search rules; book_is = cc }
+
+pub overflow_cast-depth : goal.overflow_cast-depth
+overflow_cast-depth g c =
+    let a = c.args in
+    let figures_in : AllByRecursion Within (fibre_figures a.depth a.area a.initial) = search rules in
+    let f = c.ranges.depth in
+    let l = not_below (pos 0) a.depth (pos 4096) figures_in.0 in
+    let m = not_above (pos 0) a.depth (pos 4096) figures_in.0 in
+    (omega (arith, ints), omega (arith, ints))
+
+pub overflow_cast-area : goal.overflow_cast-area
+overflow_cast-area g c =
+    let a = c.args in
+    let figures_in : AllByRecursion Within (fibre_figures a.depth a.area a.initial) = search rules in
+    let f = c.ranges.area in
+    let l = not_below (pos 1) a.area (pos 2000000) figures_in.1.0 in
+    let m = not_above (pos 1) a.area (pos 2000000) figures_in.1.0 in
+    (omega (arith, ints), omega (arith, ints))
