@@ -15,6 +15,7 @@ use laws::point::Point;
 use std::alloc::Global;
 
 // The numbers that follow the word of a command: those of f64's parse first, then the whole ones.
+// A name and the words after it are passed on from one to the next here; as a struct they would be taken apart at once.
 fn arguments<const R: usize, const W: usize>(
     name: Name,
     words: &[&[u8]],

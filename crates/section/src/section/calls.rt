@@ -1,4 +1,5 @@
 // The calls that make a section and change it; one that is refused changes nothing.
+// Three of them say that the kit stays: that is said of before and after, which no type holds.
 ghost use Rattle.std.specs.Prelude.{◌≡◌, IfOk};
 ghost use Rattle.section.specs.Held.{Standing};
 ghost use Rattle.section.specs.Calls.{first_book, Put, Take, Loads, AskedOf, TruthsOfBook};
