@@ -66,6 +66,7 @@ impl WrittenCard {
             Figures::Deck(f) => f.check().map(Figures::Deck),
             Figures::Steel(f) => f.check().map(Figures::Steel),
         };
+        // A match, since the error hands the card back, which a closure would have to take along.
         match checked {
             Ok(figures) => Ok(CheckedCard { figures }),
             Err(refusal) => Err(RefusedCard {

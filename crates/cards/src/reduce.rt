@@ -41,9 +41,10 @@ impl CheckedCard {
     pub fn reduce(self, alpha: i64, gamma: i64) -> Result<ReducedCard, RefusedCard<CheckedCard>>
         ensures { MatchResult result (λ c. Reduced alpha gamma self.figures c.law) (λ e. FactorRefused alpha gamma e.refusal × (e.card ≡ self)) }
     {
+        // A match, since the error hands the card back, which a closure would have to take along.
         match Factors::new(alpha, gamma) {
             Ok(factors) => Ok(ReducedCard {
-                law: self.lines(factors),
+                law: self.two_line(factors),
             }),
             Err(refusal) => Err(RefusedCard {
                 card: self,

@@ -1,6 +1,7 @@
 -- What a command does to the materials of a job, and what is printed.
 use Rattle.std.specs.Prelude.{◌≡◌, ℕ, ◌⊎◌, List, [], ◌∷◌, ◌++◌, map, length, ℤ, Some, None, Ok, Err, vec_items, Option, Result, slice_index}
 use Rattle.std.specs.Option.{option_map}
+use Rattle.std.specs.List.{AllByRecursion}
 use Rattle.refusal.specs.Refusals.{Says}
 use Rattle.refusal.specs.declared.Refusal.{Refusal}
 use Rattle.laws.specs.Meaning.{Meaning}
@@ -10,6 +11,7 @@ use Rattle.kits.specs.Kits.{stress_of, numbered}
 use Rattle.kits.specs.Reach.{Reaches}
 use Rattle.cards.specs.declared.written.Figures.{Figures}
 use Rattle.cards.specs.declared.two_line.TwoLine.{TwoLine}
+use Rattle.cards.specs.Figures.{InRange}
 use Rattle.cards.specs.Kinds.{figures}
 use Rattle.cards.specs.Cards.{Checked, FigureRefused, Reduced, FactorRefused}
 use Rattle.words.specs.Words.{WordsOf}
@@ -30,13 +32,14 @@ use Rattle.job.specs.declared.printed.Printed.TheVariants.{Answered, Refused, Un
 pub record Makes (line : CardLine) (law : TwoLine) : Type 0 where
   pub whole : Figures ℕ
   pub checked : Checked (figures line.card) (figures whole)
+  pub in_range : AllByRecursion InRange (figures whole)
   pub reduced : Reduced line.alpha line.gamma whole law
 
 -- a figure is refused, or, where none is, a factor
 abbrev pub MakesNone : CardLine → Refusal → Type 0
 MakesNone line refusal =
     FigureRefused (figures line.card) refusal
-    ⊎ ((whole : Figures ℕ) × Checked (figures line.card) (figures whole) × FactorRefused line.alpha line.gamma refusal)
+    ⊎ ((whole : Figures ℕ) × Checked (figures line.card) (figures whole) × AllByRecursion InRange (figures whole) × FactorRefused line.alpha line.gamma refusal)
 
 -- what the job's kit means
 abbrev pub kit_laws : List Material → List Meaning

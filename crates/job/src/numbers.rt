@@ -23,7 +23,7 @@ pub trait Number: Copy {
         ensures { MatchOption result (form word.now → ⊥) (λ x. form word.now × value word.now x) };
 }
 
-// What f64's parse makes of a word.
+// What f64's parse makes of a word. Both sorts are read by `parsed`, and each shows its own form and value of it.
 impl Number for f64 {
     const ZERO: f64 = 0.0;
 
@@ -56,6 +56,7 @@ pub(crate) fn numbers<T: Number, const N: usize>(words: &[&[u8]]) -> Result<[T; 
 {
     let mut numbers = [T::ZERO; N];
     for (place, word) in words.iter().enumerate() {
+        // By its place: a zip with the array that is written would say no more.
         numbers[place] = T::read(word).ok_or(place)?;
     }
     Ok(numbers)

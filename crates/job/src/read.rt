@@ -23,7 +23,7 @@ fn arguments<const R: usize, const W: usize>(
     requires { Fixed name R W }
     ensures { MatchResult result (λ p. Pairwise Real (take (real_count name) (texts words.now)) p.0 × Pairwise Whole (drop (real_count name) (texts words.now)) p.1) (λ f. Misses name (texts words.now) f) }
 {
-    if words.len() < R || words.len() - R != W {
+    if words.len() != R + W {
         return Err(Fault::Form { name });
     }
     let (front, back) = words.split_at(R);
@@ -67,7 +67,7 @@ fn points_line(heap: Global, words: &[&[u8]]) -> Result<PointsLine, Unread>
 }
 
 // The command of that name, with the numbers that follow its word.
-// Each kind of card has an arm of its own: a trait over the three, with what each is called and made of, would be longer than the arms.
+// Each kind of card has an arm of its own: a closure's bound may name no const parameter, and a trait over the three kinds would be longer than the arms.
 fn command(heap: Global, name: Name, words: &[&[u8]]) -> Result<Command, Unread>
     ensures { MatchResult result (λ c. (name_of_command c ≡ name) × Numbers (texts words.now) c) (λ e. UnreadBy (Misses name (texts words.now)) e) }
 {

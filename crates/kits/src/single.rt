@@ -18,18 +18,10 @@ impl<L: Law> Kit for Single<L> {
     }
 
     fn stress(&self, number: usize, strain: i32) -> Option<i32> {
-        if number == 0 {
-            Some(self.0.stress(strain))
-        } else {
-            None
-        }
+        (number == 0).then(|| self.0.stress(strain))
     }
 
     fn limits(&self, number: usize) -> Option<Limits> {
-        if number == 0 {
-            Some(self.0.limits())
-        } else {
-            None
-        }
+        (number == 0).then(|| self.0.limits())
     }
 }

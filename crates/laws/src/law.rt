@@ -6,6 +6,7 @@ ghost use Rattle.laws.specs.Written.{limits_line};
 use std::fmt;
 
 // The greatest shortening and the greatest lengthening that a material stands, in nano.
+// Their range is a fact of the laws that hold them: as one of this type it would ask more of who makes two limits to print or compare them.
 #[derive(Clone, Copy, PartialEq, Eq, Debug)]
 pub struct Limits {
     pub compression: u32,

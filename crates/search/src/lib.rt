@@ -31,7 +31,7 @@ fn halfway(low: i32, high: i32) -> i32
 
 // The least point from low to high at which the value is not below the target, where it is not below it at high.
 // Each turn halves what is left, so it asks for at most 32 values. The points are numbers and stand in no slice, so no search of the library's fits.
-// `covered` stands here and in the two below: a ghost field of a struct has to be a proposition, and what a quantity covers need not be one.
+// `covered` stands here and in the two below, with the same four parameters: as a ghost field of a struct it would have to be a proposition, and a law of NeverFalls that what is covered is one would ask more of who implements it.
 fn bisect<Q: NeverFalls>(quantity: &Q, low: i32, high: i32, target: i64) -> i32
     requires ordered { low ≤ℤ high }
     requires covered { (x : ℤ) → low ≤ℤ x → x ≤ℤ high → Q.covers quantity.now x }

@@ -6,4 +6,4 @@ pub mod Range
 pub mod Truths
 pub mod Worked
 pub mod Calls
-pub mod Held
+pub mod Books

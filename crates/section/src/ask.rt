@@ -23,9 +23,7 @@ impl<K: Kit> Row<K> {
         if curvature > MOST_CURVATURE {
             return Err(Refusal::TooCurved);
         }
-        let Some(range) = self.range(curvature) else {
-            return Err(Refusal::EmptySection);
-        };
+        let range = self.range(curvature).ok_or(Refusal::EmptySection)?;
         let (low, high) = (range.least, range.greatest);
         if high.top < low.top {
             return Err(Refusal::NoneAdmitted {
@@ -37,12 +35,12 @@ impl<K: Kit> Row<K> {
             row: self,
             curvature,
         };
-        let Some(last) = greatest(&force, low.top, high.top, load.force) else {
-            return Err(Refusal::Crushed { fibre: low.fibre });
-        };
-        let Some(first) = least(&force, low.top, high.top, load.force) else {
-            return Err(Refusal::Parted { fibre: high.fibre });
-        };
+        let last = greatest(&force, low.top, high.top, load.force).ok_or(Refusal::Crushed {
+            fibre: low.fibre,
+        })?;
+        let first = least(&force, low.top, high.top, load.force).ok_or(Refusal::Parted {
+            fibre: high.fibre,
+        })?;
         Ok(Ends {
             first,
             last,

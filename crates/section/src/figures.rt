@@ -1,4 +1,4 @@
-// The figures of a fibre and of a load, and the range of each.
+// A figure and its range, and the figures of a fibre.
 ghost use Rattle.std.specs.Prelude.{◌≡◌, MatchOption, MatchResult};
 ghost use Rattle.std.specs.List.{AllByRecursion};
 ghost use Rattle.refusal.specs.First.{FirstOut};
@@ -24,7 +24,7 @@ impl Figure {
     fn is_within(&self) -> bool
         ensures { result ≡ within self.now }
     {
-        self.least <= self.written && self.written <= self.most
+        (self.least..=self.most).contains(&self.written)
     }
 }
 
@@ -56,10 +56,10 @@ pub(crate) fn check_fibre(depth: i64, area: i64, initial: i64) -> Result<(), Ref
             most: MOST_INITIAL,
         },
     ];
-    match first_out(&figures) {
-        Some(place) => Err(Refusal::FibreFigure {
+    if let Some(place) = first_out(&figures) {
+        return Err(Refusal::FibreFigure {
             figure: place as u8,
-        }),
-        None => Ok(()),
+        });
     }
+    Ok(())
 }

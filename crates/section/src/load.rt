@@ -35,14 +35,14 @@ impl Load {
                 most: MOST_DEPTH,
             },
         ];
-        match first_out(&figures) {
-            Some(place) => Err(Refusal::LoadFigure {
+        if let Some(place) = first_out(&figures) {
+            return Err(Refusal::LoadFigure {
                 figure: place as u8,
-            }),
-            None => Ok(Load {
-                force,
-                depth: depth as u32,
-            }),
+            });
         }
+        Ok(Load {
+            force,
+            depth: depth as u32,
+        })
     }
 }

@@ -40,7 +40,7 @@ impl<K: Kit> Row<K> {
     pub(crate) fn force(&self, plane: Plane) -> i64
         ensures { result ≡ force_of (K.laws self.now.kit) self.now.fibres.items plane.curvature plane.top }
     {
-        // A plain loop, and another for the moment: docs/DECISIONS.md, forms that stay.
+        // A plain loop, and another for the moment, so that each reads as the sum that an engineer writes: docs/DECISIONS.md, forms that stay.
         let mut sum = 0;
         for fibre in &self.fibres {
             sum += self.pull(plane, fibre);

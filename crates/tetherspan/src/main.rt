@@ -1,7 +1,7 @@
 // tetherspan: reads a job from the file that its first argument names, or from standard input, and prints a line for each command.
 #![tactic(auto)]
 
-use anyhow::anyhow;
+use anyhow::ensure;
 use job::jobs::Job;
 use job::printed::Printed;
 use std::fs::File;
@@ -26,7 +26,7 @@ fn answer<R: Read + Drop>(rt: &HostRuntime, input: R) -> anyhow::Result<bool> {
     for (number, line) in (1u64..).zip(BufReader::new(heap, input)?.split(heap, b'\n')) {
         if let Some(printed) = job.line(heap, number, &line?)? {
             print(rt, number, printed)?;
-            all_read = all_read && !matches!(printed, Printed::Unreadable { .. });
+            all_read &= !matches!(printed, Printed::Unreadable { .. });
         }
     }
     Ok(all_read)
@@ -37,11 +37,8 @@ fn run(rt: &HostRuntime) -> anyhow::Result<()> {
         Some(path) => answer(rt, File::open(rt, path)?)?,
         None => answer(rt, rt.stdin())?,
     };
-    if all_read {
-        Ok(())
-    } else {
-        Err(anyhow!("a line was not read as a command"))
-    }
+    ensure!(all_read, "a line was not read as a command");
+    Ok(())
 }
 
 fn main(rt: HostRuntime) -> anyhow::Result<()> {

@@ -23,8 +23,8 @@ fn thousandths(factor: Factor, n: u32) -> u32
 }
 
 impl CheckedCard {
-    // The lines that alpha and gamma leave of the figures.
-    pub(crate) fn lines(&self, factors: Factors) -> TwoLine
+    // The law that alpha and gamma leave of the figures.
+    pub(crate) fn two_line(&self, factors: Factors) -> TwoLine
         ensures { lines result ≡ reduction_of factors.alpha.number factors.gamma.number self.now.figures }
     {
         let Factors { alpha, gamma } = factors;

@@ -1,8 +1,8 @@
 // Making a point law: which points and limits are taken, and what is refused.
-ghost use Rattle.std.specs.Prelude.{◌≡◌, ◌≤◌, length, pos, IfOk, None, MatchOption, MatchResult};
+ghost use Rattle.std.specs.Prelude.{◌≡◌, ◌≤◌, [], length, pos, IfOk, None, MatchOption, MatchResult};
 ghost use Rattle.std.specs.List.{AllByRecursion};
 ghost use Rattle.refusal.specs.First.{FirstOut};
-ghost use Rattle.laws.specs.Meaning.{Limit};
+ghost use Rattle.refusal.specs.Refusals.{Says};
 ghost use Rattle.laws.specs.Points.{in_range, in_order, sound, Sound, after, AskedLimit, PointsTaken, PointsRefused, PointShape};
 
 use super::PointLaw;
@@ -23,6 +23,13 @@ const MOST_STRAIN: i64 = 100_000_000;
 
 // The greatest stress of a point, in psi.
 const MOST_STRESS: i64 = 300_000;
+
+// Refused by 3 where the number is no limit.
+fn limit(nano: i64) -> Result<Limit, Refusal>
+    ensures { MatchResult result (λ limit. pos limit.number ≡ nano) (λ refusal. (AskedLimit nano → ⊥) × Says refusal 3 []) }
+{
+    Limit::try_from(nano).map_err(|_| Refusal::PointLawForm)
+}
 
 fn in_range(point: Point) -> bool
     ensures { result ≡ in_range point }
@@ -66,12 +73,8 @@ impl PointLaw {
         ensures cases { MatchResult result (λ law. PointsTaken points.items compression tension law.points.items law.limits) (λ refusal. PointsRefused points.items compression tension refusal) }
         ensures shape { IfOk result (λ law. PointShape law.points.items) }
     {
-        let (Ok(compression), Ok(tension)) = (
-            Limit::try_from(compression),
-            Limit::try_from(tension),
-        ) else {
-            return Err(Refusal::PointLawForm);
-        };
+        let compression = limit(compression)?;
+        let tension = limit(tension)?;
         if points.len() < FEWEST_POINTS || MOST_POINTS < points.len() {
             return Err(Refusal::PointLawForm);
         }

@@ -1,8 +1,9 @@
 // The calls that make a section and change it; one that is refused changes nothing.
+// Their clauses name the row and the load, since an impl Model would hide from callers what these two hold as facts.
 // Three of them say that the kit stays: that is said of before and after, which no type holds.
 ghost use Rattle.std.specs.Prelude.{◌≡◌, IfOk};
-ghost use Rattle.section.specs.Held.{Standing};
 ghost use Rattle.section.specs.Calls.{first_book, Put, Take, Loads, AskedOf, TruthsOfBook};
+ghost use Rattle.section.specs.Books.{book_of};
 
 use super::Section;
 use crate::ends::Ends;
@@ -19,8 +20,8 @@ const MOST_FIBRES: usize = 512;
 impl<K: Kit + Drop> Section<K> {
     // No fibre yet, and no load; the only call that can want memory.
     pub fn new(heap: Global, kit: K) -> Result<Section<K>, AllocError>
-        ensures book { IfOk result (λ s. s.book ≡ first_book) }
-        ensures kit { IfOk result (λ s. s.kit ≡ kit) }
+        ensures book { IfOk result (λ s. book_of s ≡ first_book) }
+        ensures kit { IfOk result (λ s. s.row.kit ≡ kit) }
     {
         let fibres = Vec::with_capacity(heap, MOST_FIBRES)?;
         Ok(Section {
@@ -40,8 +41,8 @@ impl<K: Kit> Section<K> {
         material: i64,
         initial: i64,
     ) -> Result<u16, Refusal>
-        ensures kit { self.new.kit ≡ self.old.kit }
-        ensures book { Put (K.Kit.laws self.old.kit) self.old.book depth area material initial result self.new.book }
+        ensures kit { self.new.row.kit ≡ self.old.row.kit }
+        ensures book { Put (K.Kit.laws self.old.row.kit) (book_of self.old) depth area material initial result (book_of self.new) }
     {
         let position = self.row.fibres.len();
         if position >= MOST_FIBRES {
@@ -51,7 +52,7 @@ impl<K: Kit> Section<K> {
         let Ok(number) = u8::try_from(material) else {
             return Err(Refusal::NoLaw);
         };
-        // The kit's answer is taken apart here and in reach: docs/DECISIONS.md, forms that stay.
+        // The kit's answer is taken apart here and in reach, as docs/DECISIONS.md says; the number above is, in the same form.
         let Some(_) = self.row.kit.limits(number as usize) else {
             return Err(Refusal::NoLaw);
         };
@@ -66,8 +67,8 @@ impl<K: Kit> Section<K> {
 
     // Takes the fibre at a position out, and moves those after it down by one; refused by 9 where none stands there.
     pub fn take(&mut self, position: i64) -> Result<(), Refusal>
-        ensures kit { self.new.kit ≡ self.old.kit }
-        ensures book { Take self.old.book position result self.new.book }
+        ensures kit { self.new.row.kit ≡ self.old.row.kit }
+        ensures book { Take (book_of self.old) position result (book_of self.new) }
     {
         if position < 0 || self.row.fibres.len() as i64 <= position {
             return Err(Refusal::NoFibre { position });
@@ -78,8 +79,8 @@ impl<K: Kit> Section<K> {
 
     // Sets the load in thousandths of a pound and its depth in sixteenths of an inch; refused by 10 for a figure out of range.
     pub fn load(&mut self, force: i64, depth: i64) -> Result<(), Refusal>
-        ensures kit { self.new.kit ≡ self.old.kit }
-        ensures book { Loads self.old.book force depth result self.new.book }
+        ensures kit { self.new.row.kit ≡ self.old.row.kit }
+        ensures book { Loads (book_of self.old) force depth result (book_of self.new) }
     {
         self.load = Load::new(force, depth)?;
         Ok(())
@@ -87,9 +88,8 @@ impl<K: Kit> Section<K> {
 
     // The ends of the top strains that balance the load at a curvature, or the first ground that bars them; it alters nothing.
     pub fn ask(&self, curvature: u32) -> Result<Ends, Refusal>
-        ensures asked { AskedOf (K.Kit.laws self.now.kit) self.now.book curvature result }
-        ensures truths { TruthsOfBook (K.Kit.laws self.now.kit) self.now.book curvature }
-        ensures standing { Standing self.now.book }
+        ensures asked { AskedOf (K.Kit.laws self.now.row.kit) (book_of self.now) curvature result }
+        ensures truths { TruthsOfBook (K.Kit.laws self.now.row.kit) (book_of self.now) curvature }
     {
         self.row.ask(&self.load, curvature)
     }

@@ -9,7 +9,7 @@ sound : {seen points : List Point} → seen ≡ points → AllByRecursion Sound 
 sound e h = let P : List Point → Type 0 = λ ps. AllByRecursion Sound (after None ps) in subst P e h
 
 pub invariant_of-result-clause-points_sound : goal.invariant_of-result-clause-points_sound
-invariant_of-result-clause-points_sound c = all_pass_from_all _ (sound c.deref.ensures.value c.in_default-first_unsound.ensures)
+invariant_of-result-clause-points_sound c = all_pass_from_all _ (sound c.deref.ensures.value c.in_default.ensures)
 
 pub returns-clause-shape : goal.returns-clause-shape
-returns-clause-shape c = point_shape _ (all_pass_from_all _ (sound c.deref.ensures.value c.in_default-first_unsound.ensures))
+returns-clause-shape c = point_shape _ (all_pass_from_all _ (sound c.deref.ensures.value c.in_default.ensures))
