@@ -39,17 +39,17 @@ abbrev pub lever : List Meaning → ℕ → ℤ → Fibre → ℤ
 lever laws curvature top f = pull laws curvature top f *ℤ pos f.depth
 
 module _ (laws : List Meaning) (lawful : AllByRecursion Lawful laws) (p : Plane) where
-  pull_within : (f : Fibre) → Ranged f → Within 600000000000 (pull laws p.curvature p.top f)
+  pull_within : (f : Fibre) → Ranged f → Within 600000000000 (pull laws p.curvature.number p.top f)
   pull_within f r =
       let law = law_of_lawful laws lawful f in
-      let fits = strain_fits p.curvature p.gentle p.top p.within f r in
-      scaled_within f.area 2000000 300000 _ r.area_most (law.low (strain p.curvature p.top f) fits, law.high (strain p.curvature p.top f) fits)
+      let fits = strain_fits p.curvature.number p.curvature.gentle p.top p.within f r in
+      scaled_within f.area 2000000 300000 _ r.area_most (law.low (strain p.curvature.number p.top f) fits, law.high (strain p.curvature.number p.top f) fits)
 
-  pub pull_small : (f : Fibre) → Ranged f → Within 2457600000000000 (pull laws p.curvature p.top f)
+  pub pull_small : (f : Fibre) → Ranged f → Within 2457600000000000 (pull laws p.curvature.number p.top f)
   pull_small f r = let w = pull_within f r in (omega (arith, ints), omega (arith, ints))
 
-  pub lever_small : (f : Fibre) → Ranged f → Within 2457600000000000 (lever laws p.curvature p.top f)
-  lever_small f r = subst (Within 2457600000000000) (*ℤ_comm (pos f.depth) (pull laws p.curvature p.top f))
+  pub lever_small : (f : Fibre) → Ranged f → Within 2457600000000000 (lever laws p.curvature.number p.top f)
+  lever_small f r = subst (Within 2457600000000000) (*ℤ_comm (pos f.depth) (pull laws p.curvature.number p.top f))
       (scaled_within f.depth 4096 600000000000 _ r.depth_most (pull_within f r))
 
 abbrev pub total : (Fibre → ℤ) → List Fibre → ℤ

@@ -34,12 +34,12 @@ product_is_whole n z h f =
 lever_is_whole : (n : ℕ) (z : ℤ) → n ≤ 4096 → SFits w64 z → (to_z w64 (of_z w64 z) *ℤ to_z w64 n) ≡ (z *ℤ pos n)
 lever_is_whole n z h f = let p : to_z w64 n ≡ pos n = omega (arith, ints) in simp (to_z-of_z, p)
 
-module _ (laws : List Meaning) (lawful : AllByRecursion Lawful laws) (p : Plane) (f : Fibre) (r : Ranged f) (v : ℤ) (fits : SFits w64 v) (v_is : v ≡ pull laws p.curvature p.top f) where
-  pub lever_taken : (to_z w64 (of_z w64 v) *ℤ to_z w64 f.depth) ≡ lever laws p.curvature p.top f
+module _ (laws : List Meaning) (lawful : AllByRecursion Lawful laws) (p : Plane) (f : Fibre) (r : Ranged f) (v : ℤ) (fits : SFits w64 v) (v_is : v ≡ pull laws p.curvature.number p.top f) where
+  pub lever_taken : (to_z w64 (of_z w64 v) *ℤ to_z w64 f.depth) ≡ lever laws p.curvature.number p.top f
   lever_taken = lever_is_whole f.depth v r.depth_most fits ∙ ap (λ z. z *ℤ pos f.depth) v_is
 
   pub lever_fits : SFits w64 (to_z w64 (of_z w64 v) *ℤ to_z w64 f.depth)
-  lever_fits = let w = lever_small laws lawful p f r in let e : SFits w64 (lever laws p.curvature p.top f) = omega (arith, ints) in rw lever_taken e
+  lever_fits = let w = lever_small laws lawful p f r in let e : SFits w64 (lever laws p.curvature.number p.top f) = omega (arith, ints) in rw lever_taken e
 
 -- a loop over the fibres of a row, where the code has a name of its own for their list
 module _ {K : Type 0} (row : Row K) (items : List Fibre) (same : items ≡ vec_items row.fibres) where

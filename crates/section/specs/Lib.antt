@@ -2,6 +2,7 @@ pub mod Fibres
 pub mod Ranges
 pub mod ForceRises
 pub mod Asked
+pub mod Curvatures
 pub mod Range
 pub mod Truths
 pub mod Worked

@@ -2,6 +2,7 @@
 ghost use Rattle.section.specs.Asked.{Asked};
 ghost use Rattle.section.specs.Truths.{TruthsOf};
 
+use crate::curvature::Curvature;
 use crate::ends::Ends;
 use crate::force::ForceAt;
 use crate::load::Load;
@@ -11,18 +12,12 @@ use kits::kit::Kit;
 use refusal::Refusal;
 use search::{greatest, least};
 
-// In nano for each sixteenth of an inch of depth.
-const MOST_CURVATURE: u32 = 65535;
-
 impl<K: Kit> Row<K> {
     // The ends of the top strains that balance the load, or the first ground that bars them. Each search asks for at most 33 forces.
-    pub(crate) fn ask(&self, load: &Load, curvature: u32) -> Result<Ends, Refusal>
-        ensures asked { Asked (K.laws self.now.kit) self.now.fibres.items load.now.force load.now.depth curvature result }
-        ensures truths { TruthsOf (K.laws self.now.kit) self.now.fibres.items load.now.force load.now.depth curvature }
+    pub(crate) fn ask(&self, load: &Load, curvature: Curvature) -> Result<Ends, Refusal>
+        ensures asked { Asked (K.laws self.now.kit) self.now.fibres.items load.now.force load.now.depth curvature.number result }
+        ensures truths { TruthsOf (K.laws self.now.kit) self.now.fibres.items load.now.force load.now.depth curvature.number }
     {
-        if curvature > MOST_CURVATURE {
-            return Err(Refusal::TooCurved);
-        }
         let range = self.range(curvature).ok_or(Refusal::EmptySection)?;
         let (low, high) = (range.least, range.greatest);
         if high.top < low.top {

@@ -2,6 +2,7 @@
 #![tactic(auto)]
 
 mod ask;
+mod curvature;
 pub mod ends;
 pub mod fibre;
 mod figures;

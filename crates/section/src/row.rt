@@ -6,6 +6,7 @@ ghost use Rattle.section.specs.Asked.{least_for, greatest_for};
 ghost use Rattle.section.specs.Range.{SetsEnds};
 ghost use Rattle.section.specs.Ranges.{all_ranged};
 
+use crate::curvature::Curvature;
 use crate::fibre::Fibre;
 use crate::load::Load;
 use crate::plane::Plane;
@@ -27,7 +28,7 @@ impl<K: Kit> Row<K> {
     // The force of a fibre, its area times its stress, in thousandths of a pound.
     fn pull(&self, plane: Plane, fibre: &Fibre) -> i64
         requires { Ranged fibre.now }
-        ensures { result ≡ pull_of (K.laws self.now.kit) plane.curvature plane.top fibre.now }
+        ensures { result ≡ pull_of (K.laws self.now.kit) plane.curvature.number plane.top fibre.now }
     {
         let stress = self
             .kit
@@ -38,7 +39,7 @@ impl<K: Kit> Row<K> {
 
     // The force of all fibres.
     pub(crate) fn force(&self, plane: Plane) -> i64
-        ensures { result ≡ force_of (K.laws self.now.kit) self.now.fibres.items plane.curvature plane.top }
+        ensures { result ≡ force_of (K.laws self.now.kit) self.now.fibres.items plane.curvature.number plane.top }
     {
         // A plain loop, and another for the moment, so that each reads as the sum that an engineer writes: docs/DECISIONS.md, forms that stay.
         let mut sum = 0;
@@ -50,7 +51,7 @@ impl<K: Kit> Row<K> {
 
     // The moment of all fibres about the top, less that of the load.
     pub(crate) fn moment(&self, load: &Load, plane: Plane) -> i64
-        ensures { result ≡ moment_of (K.laws self.now.kit) self.now.fibres.items load.now.force load.now.depth plane.curvature plane.top }
+        ensures { result ≡ moment_of (K.laws self.now.kit) self.now.fibres.items load.now.force load.now.depth plane.curvature.number plane.top }
     {
         let mut sum = 0;
         for fibre in &self.fibres {
@@ -72,11 +73,10 @@ impl<K: Kit> Row<K> {
     }
 
     // Where a fibre meets its limits.
-    fn fibre_range(&self, curvature: u32, fibre: &Fibre, position: u16) -> Range
-        requires gentle { curvature ≤ 65535 }
-        requires ranged { Ranged fibre.now }
-        ensures least { result.least.top ≡ least_for (K.laws self.now.kit) curvature fibre.now }
-        ensures greatest { result.greatest.top ≡ greatest_for (K.laws self.now.kit) curvature fibre.now }
+    fn fibre_range(&self, curvature: Curvature, fibre: &Fibre, position: u16) -> Range
+        requires { Ranged fibre.now }
+        ensures least { result.least.top ≡ least_for (K.laws self.now.kit) curvature.number fibre.now }
+        ensures greatest { result.greatest.top ≡ greatest_for (K.laws self.now.kit) curvature.number fibre.now }
         ensures places { (result.least.fibre ≡ position) × (result.greatest.fibre ≡ position) }
     {
         let limits = self.limits_of(fibre);
@@ -95,9 +95,8 @@ impl<K: Kit> Row<K> {
     }
 
     // The range of the whole row, where it has a fibre.
-    pub(crate) fn range(&self, curvature: u32) -> Option<Range>
-        requires { curvature ≤ 65535 }
-        ensures { MatchOption result (self.now.fibres.items ≡ []) (SetsEnds (K.laws self.now.kit) self.now.fibres.items curvature) }
+    pub(crate) fn range(&self, curvature: Curvature) -> Option<Range>
+        ensures { MatchOption result (self.now.fibres.items ≡ []) (SetsEnds (K.laws self.now.kit) self.now.fibres.items curvature.number) }
     {
         let mut range: Option<Range> = None;
         for (position, fibre) in self.fibres.iter().enumerate() {

@@ -6,6 +6,7 @@ ghost use Rattle.section.specs.Calls.{first_book, Put, Take, Loads, AskedOf, Tru
 ghost use Rattle.section.specs.Books.{book_of};
 
 use super::Section;
+use crate::curvature::Curvature;
 use crate::ends::Ends;
 use crate::fibre::Fibre;
 use crate::figures::check_fibre;
@@ -91,6 +92,6 @@ impl<K: Kit> Section<K> {
         ensures asked { AskedOf (K.Kit.laws self.now.row.kit) (book_of self.now) curvature result }
         ensures truths { TruthsOfBook (K.Kit.laws self.now.row.kit) (book_of self.now) curvature }
     {
-        self.row.ask(&self.load, curvature)
+        self.row.ask(&self.load, Curvature::try_from(curvature)?)
     }
 }

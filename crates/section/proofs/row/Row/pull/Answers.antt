@@ -21,8 +21,8 @@ returns g c =
     let p = c.args.plane in
     let z = c.unwrap_or-stress.result in
     let s : SFits w32 z = sfits_of c.unwrap_or-stress.type_inv in
-    let narrow = strain_fits p.curvature p.gentle p.top p.within f c.requires in
-    let wide : SFits w64 (strain p.curvature p.top f) = omega (arith, ints) in
+    let narrow = strain_fits p.curvature.number p.curvature.gentle p.top p.within f c.requires in
+    let wide : SFits w64 (strain p.curvature.number p.top f) = omega (arith, ints) in
     let k = simp (c.strain.ensures, to_z-of_z) at c.stress.ensures in
     let e = c.unwrap_or-stress.ensures ∙ ap (λ o. unwrap_or o (pos 0)) k ∙ stress_is (reached (g.K.Kit.laws c.args.self.now.kit) f.material) _ in
     ap (λ y. to_z w64 (of_z w64 y)) (product_is_whole f.area z c.requires.area_most s) ∙ to_z-of_z w64 _ (scale_fits f.area z (omega arith) s) ∙ ap (λ y. pos f.area *ℤ y) e
