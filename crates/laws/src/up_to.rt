@@ -20,7 +20,7 @@ impl<const MOST: u32> TryFrom<i64> for UpTo<MOST> {
     ghost try_from_gives = { λ z r. FromOneTo MOST z r };
 
     fn try_from(number: i64) -> Result<UpTo<MOST>, OutOfRange> {
-        if 1 <= number && number <= MOST as i64 {
+        if (1..=MOST as i64).contains(&number) {
             Ok(UpTo {
                 number: number as u32,
             })

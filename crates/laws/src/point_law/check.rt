@@ -34,10 +34,8 @@ fn limit(nano: i64) -> Result<Limit, Refusal>
 fn in_range(point: Point) -> bool
     ensures { result ≡ in_range point }
 {
-    -MOST_STRAIN <= point.strain
-        && point.strain <= MOST_STRAIN
-        && -MOST_STRESS <= point.stress
-        && point.stress <= MOST_STRESS
+    (-MOST_STRAIN..=MOST_STRAIN).contains(&point.strain)
+        && (-MOST_STRESS..=MOST_STRESS).contains(&point.stress)
 }
 
 fn in_order(before: Option<Point>, point: Point) -> bool
