@@ -1,5 +1,5 @@
 // From a written card to a checked one.
-ghost use Rattle.std.specs.Prelude.{◌≡◌, ◌<◌, length, MatchResult};
+ghost use Rattle.std.specs.Prelude.{◌≡◌, MatchResult};
 ghost use Rattle.std.specs.List.{AllByRecursion};
 ghost use Rattle.cards.specs.Figures.{InRange};
 ghost use Rattle.cards.specs.Kinds.{uhpc_figures, deck_figures, steel_figures, figures};
