@@ -172,9 +172,7 @@ fn cards_come_back(rt: HostRuntime) -> Result<(), Fail> {
         return Err(Fail::new("taken"));
     };
     assert_eq!(rt; back.refusal, Refusal::Factor { factor: 1 });
-    let Ok(reduced) = back.card.reduce(850, 850) else {
-        return Err(Fail::new("refused"));
-    };
+    let reduced = back.card.reduce(850, 850).map_err(Refusal::from)?;
     assert_eq!(rt;
         reduced.law().plateaus(),
         Plateaus {

@@ -57,7 +57,7 @@ impl Job {
         Ok(number)
     }
 
-    // Here and in the next three, what comes out is answered or refused: a match, since two of them keep a material in between, which may fail.
+    // Here and in the next three, what comes out is answered or refused: a match, since two of them keep a material in between, which may fail, and the others read like them.
     fn add_card(&mut self, line: CardLine) -> Result<Printed, AllocError>
         ensures { MatchResult result (λ p. Performed self.old (Card line) p self.new) (λ _. self.new ≡ self.old) }
     {

@@ -6,7 +6,7 @@ ghost use Rattle.refusal.specs.Refusals.{number as number_of, places as places_o
 
 use std::fmt;
 
-// The figures and factors of a card, the points of a law and the fibres of a section are named by their place, from 0, since that is what a refusal prints.
+// The figures of a card, of a fibre and of a load, the factors of a card, the points of a law and the fibres of a section are named by their place, from 0, since that is what a refusal prints.
 #[derive(Clone, Copy, PartialEq, Eq, Debug)]
 pub enum Refusal {
     // a figure of a card is not a number or lies outside its range

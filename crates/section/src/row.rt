@@ -98,6 +98,7 @@ impl<K: Kit> Row<K> {
     pub(crate) fn range(&self, curvature: Curvature) -> Option<Range>
         ensures { MatchOption result (self.now.fibres.items ≡ []) (SetsEnds (K.laws self.now.kit) self.now.fibres.items curvature.number) }
     {
+        // A loop: as a chain that ends in `reduce`, what each of its calls needs was not shown.
         let mut range: Option<Range> = None;
         for (position, fibre) in self.fibres.iter().enumerate() {
             let own = self.fibre_range(curvature, fibre, position as u16);

@@ -22,6 +22,7 @@ fn print(rt: &HostRuntime, number: u64, printed: Printed) -> io::Result<()> {
 fn answer<R: Read + Drop>(rt: &HostRuntime, input: R) -> anyhow::Result<bool> {
     let heap = rt.alloc();
     let mut job = Job::new(heap);
+    // A flag, since a line that is not read must not stop the others.
     let mut all_read = true;
     for (number, line) in (1u64..).zip(BufReader::new(heap, input)?.split(heap, b'\n')) {
         if let Some(printed) = job.line(heap, number, &line?)? {
