@@ -4,10 +4,6 @@ use Rattle.std.proofs.lemmas.Int.{ints}
 use Rattle.section.proofs.Asking.{truths, covered, passed, crossed, all_above, all_below, between}
 use Rattle.section.proofs.row.Row.ask.Goals as goal
 
-pub returns-in_err-range-clause-truths : goal.returns-in_err-range-clause-truths
-returns-in_err-range-clause-truths g c =
-    let s = c.args.self.now in truths (g.K.Kit.lawful s.kit) s c.args.load.now
-
 pub returns-then-high-low-clause-asked : goal.returns-then-high-low-clause-asked
 returns-then-high-low-clause-asked g c =
     let s = c.args.self.now in
