@@ -1,5 +1,5 @@
 -- What the words of a line are.
-use Rattle.std.specs.Prelude.{◌≡◌, ℕ, ◌<◌, Bool, true, false, ◌||◌, List, [], ◌∷◌, ◌++◌, map, length, ◌==◌}
+use Rattle.std.specs.Prelude.{◌≡◌, ℕ, ◌<◌, Bool, true, false, not, ◌||◌, List, [], ◌∷◌, ◌++◌, map, length, ◌==◌}
 use Rattle.std.specs.Borrow.{Bor}
 use Rattle.std.specs.List.{AllByRecursion}
 
@@ -11,10 +11,16 @@ blank b = b == 32 || b == 9 || b == 13
 abbrev pub Only : Bool → List ℕ → Type 0
 Only k bs = AllByRecursion (λ b. blank b ≡ k) bs
 
--- there is no byte, or the first is a blank
-abbrev pub EndsOrBlank : List ℕ → Type 0
-EndsOrBlank [] = Unit {0}
-EndsOrBlank (b ∷ bs) = blank b ≡ true
+-- there is no byte, or the first is a blank, where k is true, or is none, where k is false
+abbrev pub Starts : Bool → List ℕ → Type 0
+Starts k [] = Unit {0}
+Starts k (b ∷ bs) = blank b ≡ k
+
+-- the longest run of blanks at the front, or of bytes that are none, and what follows it
+pub record Run (k : Bool) (line front after : List ℕ) : Type 0 where
+  pub whole : line ≡ front ++ after
+  pub same : Only k front
+  pub ends : Starts (not k) after
 
 -- after a gap of blanks comes a word, which has a byte and no blank, and then the end or a blank
 pub record FirstWord (line word after : List ℕ) : Type 0 where
@@ -23,7 +29,7 @@ pub record FirstWord (line word after : List ℕ) : Type 0 where
   pub blank_gap : Only true gap
   pub some : 0 < length word
   pub solid : Only false word
-  pub ends : EndsOrBlank after
+  pub ends : Starts true after
 
 -- the words of a line from its first to its last, past which it has only blanks
 abbrev pub WordsOf : List ℕ → List (List ℕ) → Type 0

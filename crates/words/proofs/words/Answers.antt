@@ -1,16 +1,23 @@
-use Rattle.std.proofs.Common.{◌≡◌, IfOk, rules, sym, subst, ◌∙◌, vec_items}
-use borrow.Author.Tests.{tests}
-use Rattle.std.proofs.lemmas.Iterator.Consumers.{YieldsList-at, YieldsList-from_filter, map_from_collect}
-use Rattle.std.proofs.lemmas.Iterator.Splits.{YieldsList-from_slice_split}
-use Rattle.std.proofs.lemmas.Result.{IfOk-weaker}
-use Rattle.words.specs.Words.{blank, WordsOf, texts}
-use Rattle.words.proofs.Pieces.{has_byte, kept, kept_words, only_kept, has_byte_is}
+use Rattle.std.proofs.Common.{◌<◌, length, vec_items, arith, true-eqb, false-eqb}
+use Rattle.words.proofs.Lists.{start, pushed, shorter, done, only_words}
 use Rattle.words.proofs.words.Goals as goal
+
+pub loop-rest-init : goal.loop-rest-init
+loop-rest-init c = start _ _ _ _ c.new-words.ensures.items c.split_gap.ensures
+
+pub loop-rest-smaller : goal.loop-rest-smaller
+loop-rest-smaller c =
+    let some : 0 < length c.loop-rest.rest.now = omega (arith, false-eqb _ 0 c.loop-rest-test.ensures) in
+    shorter _ _ _ _ _ c.loop-rest.invariant.begins some c.split_word.ensures c.split_gap-in-loop-rest.ensures
+
+pub loop-rest-preserved : goal.loop-rest-preserved
+loop-rest-preserved c =
+    let some : 0 < length c.loop-rest.rest.now = omega (arith, false-eqb _ 0 c.loop-rest-test.ensures) in
+    let found = vec_items c.loop-rest.words in
+    let all = vec_items c.push.new.self in
+    pushed _ _ _ _ _ found all c.split_word.result.0 c.in_ok-push.ensures.items c.loop-rest.invariant some c.split_word.ensures c.split_gap-in-loop-rest.ensures
 
 pub returns : goal.returns
 returns c =
-    let chain : IfOk c.collect.result (λ v. texts (vec_items v) ≡ kept c.args.line.now) = map_from_collect _ c.collect.ensures.ran (YieldsList-from_filter _ has_byte (YieldsList-at c.filter.ensures.source (YieldsList-from_slice_split _ blank c.args.line.now c.split.ensures.rest c.split.ensures.done c.split.ensures.closure (λ x b q k. search (rules, tests)))) c.filter.ensures.closure (λ x b q k. search (rules, tests, has_byte_is))) in
-    record {
-      items = IfOk-weaker c.collect.result _ _ (λ v e. subst (WordsOf c.args.line.now) (sym e) (kept_words c.args.line.now)) chain;
-      only = IfOk-weaker c.collect.result _ _ (λ v e ws h. only_kept c.args.line.now ws h ∙ sym e) chain;
-    }
+    let all = done _ _ _ c.loop-rest.invariant (true-eqb _ 0 c.loop-rest-test.ensures) in
+    record { items = all; only = λ ws h. only_words _ ws _ h all }
