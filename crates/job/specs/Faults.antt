@@ -55,6 +55,15 @@ abbrev pub UnreadBy : (Fault → Type 0) → Unread → Type 0
 UnreadBy P (AtFault fault) = P fault
 UnreadBy P (Memory error) = Unit {0}
 
+-- memory ran out only where it may be wanted
+abbrev pub WantedIn : Type 0 → Unread → Type 0
+WantedIn P (AtFault fault) = Unit {0}
+WantedIn P (Memory error) = P
+
+-- the words begin as a line of points does: of all lines these alone want memory to be read
+abbrev pub ForPoints : List (List ℕ) → Type 0
+ForPoints words = slice_index_or words 0 [] ≡ spelling Points
+
 -- the text is the word of a command, or that of none
 abbrev pub NamesCommand : List ℕ → Result Name Fault → Type 0
 NamesCommand text r = MatchResult r (λ name. text ≡ spelling name) (λ fault. (fault ≡ Unknown) × ((name : Name) → text ≢ spelling name))

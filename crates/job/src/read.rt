@@ -1,10 +1,10 @@
 // From the words of a line to its command.
-ghost use Rattle.std.specs.Prelude.{◌≡◌, [], ◌∷◌, take, drop, MatchResult};
+ghost use Rattle.std.specs.Prelude.{◌≡◌, [], ◌∷◌, take, drop, IfErr, MatchResult};
 ghost use Rattle.words.specs.Words.{texts};
 ghost use Rattle.job.specs.declared.command.Command.TheVariants.{Points};
 ghost use Rattle.job.specs.Numbers.{Pairwise, Real, Whole};
 ghost use Rattle.job.specs.Commands.{real_count, name as name_of_command, Numbers, Spells};
-ghost use Rattle.job.specs.Faults.{Fixed, Narrow, Misses, Faulty, UnreadBy};
+ghost use Rattle.job.specs.Faults.{Fixed, Narrow, Misses, Faulty, UnreadBy, WantedIn, ForPoints};
 
 use crate::command::{CardLine, Command, Name, PointsLine};
 use crate::fault::{Fault, Unread};
@@ -69,7 +69,8 @@ fn points_line(heap: Global, words: &[&[u8]]) -> Result<PointsLine, Unread>
 // The command of that name, with the numbers that follow its word.
 // Each kind of card has an arm of its own: a closure's bound may name no const parameter, and a trait over the three kinds would be longer than the arms.
 fn command(heap: Global, name: Name, words: &[&[u8]]) -> Result<Command, Unread>
-    ensures { MatchResult result (λ c. (name_of_command c ≡ name) × Numbers (texts words.now) c) (λ e. UnreadBy (Misses name (texts words.now)) e) }
+    ensures cases { MatchResult result (λ c. (name_of_command c ≡ name) × Numbers (texts words.now) c) (λ e. UnreadBy (Misses name (texts words.now)) e) }
+    ensures memory { IfErr result (WantedIn (name ≡ Name.Points)) }
 {
     match name {
         Name::Uhpc => {
@@ -101,7 +102,8 @@ fn command(heap: Global, name: Name, words: &[&[u8]]) -> Result<Command, Unread>
 
 // The command that the words of a line are, or why they are none.
 pub fn read(heap: Global, words: &[&[u8]]) -> Result<Command, Unread>
-    ensures { MatchResult result (λ c. Spells (texts words.now) c) (λ e. UnreadBy (Faulty (texts words.now)) e) }
+    ensures cases { MatchResult result (λ c. Spells (texts words.now) c) (λ e. UnreadBy (Faulty (texts words.now)) e) }
+    ensures memory { IfErr result (WantedIn (ForPoints (texts words.now))) }
 {
     let (word, rest) = words.split_first().ok_or(Fault::Unknown)?;
     let name = parsed(word).ok_or(Fault::Unknown)?;

@@ -18,8 +18,8 @@ spelling_is_text Points = (spelling Points, (refl, refl))
 spelling_is_text Stress = (spelling Stress, (refl, refl))
 spelling_is_text Reach = (spelling Reach, (refl, refl))
 
-pub returns-in_err-name : goal.returns-in_err-name
-returns-in_err-name c =
+pub returns-in_err-name-clause-cases : goal.returns-in_err-name-clause-cases
+returns-in_err-name-clause-cases c =
     let cut : texts c.args.words.now ≡ c.in_ok-word.word.now.now ∷ texts c.in_ok-word.rest.now = ap texts (MatchOption-at_some _ _ _ c.in_ok-word.ensures.ok_part c.split_first.ensures.cases).0 in
     let none = MatchOption-at_none _ _ c.in_err-name.ensures.ok_part c.parsed.ensures in
     let same = ok_or_err c.parsed.result _ _ c.in_err-name.ensures.value c.in_err-name.ensures.ok_part in
