@@ -2,7 +2,7 @@ use Rattle.std.proofs.Common.{pos, ◌*ℤ◌, unwrap_or, ap, ◌∙◌, arith, 
 use borrow.Author.Rules.{sfits_of}
 use Rattle.std.proofs.lemmas.Int.{ints, to_z-of_z}
 use Rattle.laws.proofs.Whole.{scale_fits}
-use Rattle.kits.specs.Kits.{reached}
+use Rattle.kits.specs.Kits.{reached, stress_at}
 use Rattle.section.specs.Fibres.{strain}
 use Rattle.section.specs.ForceRises.{strain_fits}
 use Rattle.section.proofs.Summing.{stress_is, product_is_whole}
@@ -23,6 +23,7 @@ returns g c =
     let s : SFits w32 z = sfits_of c.unwrap_or-stress.type_inv in
     let narrow = strain_fits p.curvature.number p.curvature.gentle p.top p.within f c.requires in
     let wide : SFits w64 (strain p.curvature.number p.top f) = omega (arith, ints) in
-    let k = simp (c.strain.ensures, to_z-of_z) at c.stress.ensures in
+    let top = c.strain.ensures in
+    let k = c.stress.ensures ∙ ap (λ x. stress_at (g.K.Kit.laws c.args.self.now.kit) f.material x) (omega (arith, ints)) in
     let e = c.unwrap_or-stress.ensures ∙ ap (λ o. unwrap_or o (pos 0)) k ∙ stress_is (reached (g.K.Kit.laws c.args.self.now.kit) f.material) _ in
     ap (λ y. to_z w64 (of_z w64 y)) (product_is_whole f.area z c.requires.area_most s) ∙ to_z-of_z w64 _ (scale_fits f.area z (omega arith) s) ∙ ap (λ y. pos f.area *ℤ y) e
