@@ -55,7 +55,7 @@ abbrev pub UnreadBy : (Fault → Type 0) → Unread → Type 0
 UnreadBy P (AtFault fault) = P fault
 UnreadBy P (Memory error) = Unit {0}
 
--- memory ran out only where it may be wanted
+-- where memory ran out, this holds
 abbrev pub WantedIn : Type 0 → Unread → Type 0
 WantedIn P (AtFault fault) = Unit {0}
 WantedIn P (Memory error) = P

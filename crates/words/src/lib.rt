@@ -20,7 +20,7 @@ fn split_gap<'a>(line: &'a [u8]) -> (&'a [u8], &'a [u8])
     line.split_at(end.unwrap_or(line.len()))
 }
 
-// The word at the front of a line, up to its first blank, and what follows it.
+// The word at the front of a line, up to its first blank, and what follows it. Beside the one above: as one function the two would take a flag.
 fn split_word<'a>(line: &'a [u8]) -> (&'a [u8], &'a [u8])
     ensures { Run false line.now result.0.now result.1.now }
 {
